@@ -1,0 +1,19 @@
+-- `aes::block_of` meets its contract: the string, copied over as many zeros, is the string.
+-- Assumes nothing.
+use borrow.Author.Needs.{needs}
+use mathlib.Core.Path.{_∙_}
+use Rattle.aes.proofs.Calls.{copied}
+use Rattle.aes.proofs.block_of.Statement.{statement}
+use Rattle.aes.proofs.block_of.Tie as tie
+
+slice-aggregate-put : tie.Need-slice-aggregate-put
+slice-aggregate-put c = search needs
+
+put-requires : tie.Need-put-requires
+put-requires c κs = search needs
+
+returns : tie.Need-returns
+returns c = c .before .put .ensures ∙ copied _ 16 (c .before .before .before .before .pre)
+
+pub block-of-spec : {M : Type 1} → statement M
+block-of-spec = tie.close (tie.spec slice-aggregate-put put-requires returns)

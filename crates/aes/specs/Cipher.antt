@@ -1,0 +1,51 @@
+-- FIPS 197, section 5.1: the cipher, at the key length 256, which has 14 rounds. A schedule is a list of fifteen round keys.
+-- `cipher` is shut: upper crates know it by its laws (specs/Laws.antt) alone, and `Cipher.Inside` is for the crates of the block cipher.
+-- Assumes nothing.
+use Prim.Native.Nat.{ℕ, zero, suc, _+_, _%_}
+use mathlib.Core.List.{List, []}
+use lib.Bits.{bitXor}
+use lib.ListN.{getD}
+use Rattle.aes_field.specs.Field.{sbox}
+use Rattle.aes_field.specs.Words.{Column, columnOf, timesMatrix, mixRow}
+use Rattle.aes.specs.State.{State, column, stateOf, stateFrom, bytesOf}
+pub mod Inside
+
+-- 5.1.1
+abbrev pub subColumn : Column → Column
+subColumn a = columnOf (λ r. sbox (getD a r 0))
+
+abbrev pub subBytes : State → State
+subBytes s = stateOf (λ c. subColumn (column s c))
+
+-- 5.1.2: row r moves r places to the left
+abbrev pub shiftRows : State → State
+shiftRows s = stateOf (λ c. columnOf (λ r. getD (column s ((c + r) % 4)) r 0))
+
+-- 5.1.3
+abbrev pub mixColumn : Column → Column
+mixColumn = timesMatrix mixRow
+
+abbrev pub mixColumns : State → State
+mixColumns s = stateOf (λ c. mixColumn (column s c))
+
+-- 5.1.4
+abbrev pub addColumn : Column → Column → Column
+addColumn a k = columnOf (λ r. bitXor (getD a r 0) (getD k r 0))
+
+abbrev pub addRoundKey : State → State → State
+addRoundKey s k = stateOf (λ c. addColumn (column s c) (column k c))
+
+-- 5.1: rounds 1 to 13, and the last, without MixColumns
+unfoldable pub round : State → State → State
+round s k = addRoundKey (mixColumns (shiftRows (subBytes s))) k
+
+unfoldable pub lastRound : State → State → State
+lastRound s k = addRoundKey (shiftRows (subBytes s)) k
+
+-- rounds 1 to n
+unfoldable pub rounds : List State → ℕ → State → State
+rounds ks zero s = s
+rounds ks (suc n) s = round (rounds ks n s) (getD ks (suc n) [])
+
+pub cipher : List State → List ℕ → List ℕ
+cipher ks b = bytesOf (lastRound (rounds ks 13 (addRoundKey (stateFrom b) (getD ks 0 []))) (getD ks 14 []))

@@ -1,0 +1,96 @@
+// AES-256: the block cipher of FIPS 197. A state is four columns of four bytes and a schedule fifteen round keys, all by value.
+mod backward;
+mod forward;
+mod schedule;
+pub mod state;
+
+use aes_field::inv_sbox_table;
+use aes_field::sbox_table;
+use backward::all_inv_rounds;
+use forward::all_rounds;
+use forward::last_round;
+use octets::strings::put;
+use schedule::extend;
+use schedule::first_key;
+use schedule::second_key;
+use state::add_round_key;
+use state::load;
+use state::store;
+ghost use mathlib.Core.Path.{_≡_};
+ghost use lib.ListN.{length};
+ghost use Rattle.aes.specs.Cipher.{cipher};
+ghost use Rattle.aes.specs.InvCipher.{invCipher};
+ghost use Rattle.aes.specs.KeyExpansion.{schedule};
+ghost use Rattle.aes.specs.Calls.{encryptBlock, decryptBlock};
+
+pub fn expand_key(key: [u8; 32]) -> [[[u8; 4]; 4]; 15]
+    ensures { λ r. ⌜ r ≡ schedule key ⌝ }
+{
+    let t = sbox_table();
+    extend(&t, first_key(key), second_key(key))
+}
+
+pub fn encrypt(ks: [[[u8; 4]; 4]; 15], block: [u8; 16]) -> [u8; 16]
+    ensures { λ r. ⌜ r ≡ cipher ks block ⌝ }
+{
+    let t = sbox_table();
+    let s = add_round_key(load(block), ks[0]);
+    store(last_round(&t, all_rounds(&t, ks, s), ks[14]))
+}
+
+pub fn decrypt(ks: [[[u8; 4]; 4]; 15], block: [u8; 16]) -> [u8; 16]
+    ensures { λ r. ⌜ r ≡ invCipher ks block ⌝ }
+{
+    let t = inv_sbox_table();
+    let s = add_round_key(load(block), ks[14]);
+    store(all_inv_rounds(&t, ks, s))
+}
+
+// Lent bytes.
+
+fn key_of(key: &[u8]) -> [u8; 32]
+    requires { ⌜ length (now key) ≡ 32 ⌝ }
+    ensures { λ r. ⌜ r ≡ now (key .entry) ⌝ }
+{
+    let mut k = [0u8; 32];
+    put(&mut k, key);
+    k
+}
+
+fn block_of(block: &[u8]) -> [u8; 16]
+    requires { ⌜ length (now block) ≡ 16 ⌝ }
+    ensures { λ r. ⌜ r ≡ now (block .entry) ⌝ }
+{
+    let mut b = [0u8; 16];
+    put(&mut b, block);
+    b
+}
+
+// The block is changed in place, or not at all.
+pub fn encrypt_block(key: &[u8], block: &mut [u8]) -> u8
+    ensures { λ r. ⌜ encryptBlock (now (key .entry)) (now (block .entry)) ≡ (r, now (block .exit)) ⌝ }
+{
+    if key.len() != 32 {
+        return 2;
+    }
+    if block.len() != 16 {
+        return 2;
+    }
+    let done = encrypt(expand_key(key_of(key)), block_of(block));
+    put(block, &done);
+    0
+}
+
+pub fn decrypt_block(key: &[u8], block: &mut [u8]) -> u8
+    ensures { λ r. ⌜ decryptBlock (now (key .entry)) (now (block .entry)) ≡ (r, now (block .exit)) ⌝ }
+{
+    if key.len() != 32 {
+        return 2;
+    }
+    if block.len() != 16 {
+        return 2;
+    }
+    let done = decrypt(expand_key(key_of(key)), block_of(block));
+    put(block, &done);
+    0
+}

@@ -1,0 +1,86 @@
+// The key schedule (FIPS 197, section 5.2), four words at a time.
+use crate::forward::sub_column;
+use crate::state::add_column;
+ghost use mathlib.Core.Path.{_≡_};
+ghost use mathlib.Core.List.{[], _∷_};
+ghost use Prim.Native.Nat.{_+_, _*_, _<_};
+ghost use Rattle.aes_field.specs.Tables.{sboxTable};
+ghost use Rattle.aes.specs.State.{stateOf};
+ghost use Rattle.aes.specs.KeyExpansion.{rotWord, power, temp, keyWord, nextKey, extended};
+
+// The constants that go into every second round key.
+const RCON: [u8; 7] = [1, 2, 4, 8, 16, 32, 64];
+
+fn round_constant(j: usize) -> u8
+    requires { ⌜ j < 7 ⌝ }
+    ensures { λ r. ⌜ r ≡ power j ⌝ }
+{
+    RCON[j]
+}
+
+fn rot_word(a: [u8; 4]) -> [u8; 4]
+    ensures { λ r. ⌜ r ≡ rotWord a ⌝ }
+{
+    [a[1], a[2], a[3], a[0]]
+}
+
+// The temp of the first word of round key n + 2, where a is the word before it.
+fn first_temp(t: &[u8; 256], n: usize, a: [u8; 4]) -> [u8; 4]
+    requires { ⌜ (n < 13) × (now t ≡ sboxTable) ⌝ }
+    ensures { λ r. ⌜ r ≡ temp (8 + 4 * n) a ⌝ }
+{
+    if n % 2 == 0 {
+        let c = round_constant(n / 2);
+        return add_column(sub_column(t, rot_word(a)), [c, 0, 0, 0]);
+    }
+    sub_column(t, a)
+}
+
+fn next_key(k: [[u8; 4]; 4], t: [u8; 4]) -> [[u8; 4]; 4]
+    ensures { λ r. ⌜ r ≡ nextKey k t ⌝ }
+{
+    let w0 = add_column(k[0], t);
+    let w1 = add_column(k[1], w0);
+    let w2 = add_column(k[2], w1);
+    let w3 = add_column(k[3], w2);
+    [w0, w1, w2, w3]
+}
+
+// The first two round keys, and the thirteen that follow from them.
+pub(crate) fn extend(t: &[u8; 256], first: [[u8; 4]; 4], second: [[u8; 4]; 4]) -> [[[u8; 4]; 4]; 15]
+    requires { ⌜ now t ≡ sboxTable ⌝ }
+    ensures { λ r. ⌜ r ≡ extended (first ∷ second ∷ []) 13 ⌝ }
+{
+    let mut ks = [first; 15];
+    ks[1] = second;
+    let mut n: usize = 0;
+    while n < 13 {
+        let w = first_temp(t, n, ks[n + 1][3]);
+        let k = next_key(ks[n], w);
+        ks[n + 2] = k;
+        n += 1;
+    }
+    ks
+}
+
+pub(crate) fn first_key(key: [u8; 32]) -> [[u8; 4]; 4]
+    ensures { λ r. ⌜ r ≡ stateOf (keyWord key) ⌝ }
+{
+    [
+        [key[0], key[1], key[2], key[3]],
+        [key[4], key[5], key[6], key[7]],
+        [key[8], key[9], key[10], key[11]],
+        [key[12], key[13], key[14], key[15]],
+    ]
+}
+
+pub(crate) fn second_key(key: [u8; 32]) -> [[u8; 4]; 4]
+    ensures { λ r. ⌜ r ≡ stateOf (λ c. keyWord key (4 + c)) ⌝ }
+{
+    [
+        [key[16], key[17], key[18], key[19]],
+        [key[20], key[21], key[22], key[23]],
+        [key[24], key[25], key[26], key[27]],
+        [key[28], key[29], key[30], key[31]],
+    ]
+}

@@ -1,0 +1,5 @@
+pub mod Computed
+pub mod Tables
+pub mod Linear
+pub mod Inverse
+pub mod Unmix

@@ -1,0 +1,16 @@
+-- The S-box and its inverse as tables of 256 entries (FIPS 197, sections 5.1.1 and 5.3.2).
+-- Assumes nothing.
+use Prim.Native.Nat.{ℕ}
+use mathlib.Core.List.{List}
+use Rattle.octets.specs.Values.{values}
+use Rattle.aes_field.specs.Field.{sbox, invSbox}
+
+-- entry k is what the rule f gives at k
+unfoldable pub tableOf : (ℕ → ℕ) → List ℕ
+tableOf f = values f 0 256
+
+abbrev pub sboxTable : List ℕ
+sboxTable = tableOf sbox
+
+abbrev pub invSboxTable : List ℕ
+invSboxTable = tableOf invSbox

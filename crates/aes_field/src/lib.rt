@@ -1,0 +1,28 @@
+// Bytes as elements of GF(2^8), and the S-box and its inverse as constant tables (FIPS 197, sections 4, 5.1.1 and 5.3.2).
+mod inv_sbox;
+mod sbox;
+
+use inv_sbox::INV_SBOX;
+use sbox::SBOX;
+ghost use mathlib.Core.Path.{_≡_};
+ghost use Rattle.aes_field.specs.Field.{xtime};
+ghost use Rattle.aes_field.specs.Tables.{sboxTable, invSboxTable};
+
+// Times x in the field.
+pub fn double(a: u8) -> u8
+    ensures { λ r. ⌜ r ≡ xtime a ⌝ }
+{
+    ((a as u16 * 2 % 256) as u8) ^ (a / 128 * 27)
+}
+
+pub fn sbox_table() -> [u8; 256]
+    ensures { λ r. ⌜ r ≡ sboxTable ⌝ }
+{
+    SBOX
+}
+
+pub fn inv_sbox_table() -> [u8; 256]
+    ensures { λ r. ⌜ r ≡ invSboxTable ⌝ }
+{
+    INV_SBOX
+}

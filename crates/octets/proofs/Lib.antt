@@ -1,0 +1,6 @@
+pub mod Values
+pub mod Bytes
+pub mod BigEndian
+pub mod Xor
+pub mod Same
+pub mod Lent

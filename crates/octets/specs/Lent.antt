@@ -1,0 +1,24 @@
+-- Document 01, "Numbers given back": the number of a call, and what a lent output then holds.
+-- Assumes nothing.
+use Prim.Native.Nat.{ℕ}
+use mathlib.Core.Bool.{Bool, true, false}
+use mathlib.Core.List.{List, [], _∷_, _++_}
+use lib.Dec.{eqb}
+use lib.ListN.{length, take, drop}
+
+abbrev pub when : {A : Type 0} → Bool → A → A → A
+when true a b = a
+when false a b = b
+
+-- "The lowest that applies is given, and no other": numbers in rising order, each with whether it applies, and else 0
+abbrev pub lowest : List (ℕ × Bool) → ℕ
+lowest [] = 0
+lowest (n ∷ ns) = when (n .1) (n .0) (lowest ns)
+
+-- s written over the front of d, as far as d reaches
+abbrev pub over : List ℕ → List ℕ → List ℕ
+over s d = take (length d) s ++ drop (length s) d
+
+-- a number, and the lent output after it: the result over its front after 0, and after any other as it was before
+abbrev pub answer : ℕ → List ℕ → List ℕ → ℕ × List ℕ
+answer n result before = (n, when (eqb n 0) (over result before) before)

@@ -1,0 +1,59 @@
+// Whole strings: compared, added, and written one over another.
+ghost use mathlib.Core.Path.{_≡_};
+ghost use Rattle.octets.specs.Xor.{xors};
+ghost use Rattle.octets.specs.Same.{same};
+ghost use Rattle.octets.specs.Lent.{over};
+
+// Whether two strings have the same length and the same bytes. Every byte is looked at, whatever the earlier ones are.
+pub fn equal(a: &[u8], b: &[u8]) -> bool
+    ensures { λ r. ⌜ r ≡ same (now (a .entry)) (now (b .entry)) ⌝ }
+{
+    if a.len() != b.len() {
+        return false;
+    }
+    let mut different: u8 = 0;
+    let mut i = 0;
+    while i < a.len() {
+        different = different | (a[i] ^ b[i]);
+        i += 1;
+    }
+    different == 0
+}
+
+// The exclusive or of two blocks.
+pub fn xor_blocks(a: [u8; 16], b: [u8; 16]) -> [u8; 16]
+    ensures { λ r. ⌜ r ≡ xors a b ⌝ }
+{
+    [
+        a[0] ^ b[0],
+        a[1] ^ b[1],
+        a[2] ^ b[2],
+        a[3] ^ b[3],
+        a[4] ^ b[4],
+        a[5] ^ b[5],
+        a[6] ^ b[6],
+        a[7] ^ b[7],
+        a[8] ^ b[8],
+        a[9] ^ b[9],
+        a[10] ^ b[10],
+        a[11] ^ b[11],
+        a[12] ^ b[12],
+        a[13] ^ b[13],
+        a[14] ^ b[14],
+        a[15] ^ b[15],
+    ]
+}
+
+// Writes s over the front of out, as far as out reaches.
+pub fn put(out: &mut [u8], s: &[u8])
+    ensures { λ _. ⌜ now (out .exit) ≡ over (now (s .entry)) (now (out .entry)) ⌝ }
+{
+    let mut i = 0;
+    while i < s.len() {
+        if i == out.len() {
+            return;
+        }
+        out[i] = s[i];
+        i += 1;
+    }
+}
