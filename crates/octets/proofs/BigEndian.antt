@@ -5,7 +5,7 @@ use mathlib.Core.List.{List, [], _∷_, _++_, append-assoc}
 use Prim.Native.Nat.{ℕ, zero, suc, _+_, _*_, _/_, _%_, _^_, _≤_, _<_}
 use native.Mathlib.Nat.{pow-suc, add-zero, zero-add, zero-mul, add-mul, mul-assoc, mul-comm, add-assoc, mul-le-mul-right, le-of-suc-le-suc}
 use native.Mathlib.Nat.{mod-lt, mod-eq-of-lt, div-one, div-eq-of-lt, div-div-eq-div-mul, div-add-mod', mul-add-div-right, mul-add-mod-self-right}
-use native.Mathlib.Numerals.{add-one, add-two, add-three}
+use native.Mathlib.Numerals.{add-one, add-two, add-three, add-four}
 use native.Mathlib.Omega.{arith}
 use lib.Dec.{lit<}
 use lib.ListN.{length, getD, take, drop, length-append, length-drop}
@@ -85,10 +85,6 @@ be-injective w {n} {m} hn hm e = sym (number-be w n hn) ∙ ap number e ∙ numb
 
 -- ---- at a place of a string
 
-pub numberAt-four : (s : List ℕ) (i k : ℕ)
-    → numberAt 4 s (i + k) ≡ getD s (i + k) 0 * 16777216 + getD s (i + (k + 1)) 0 * 65536 + getD s (i + (k + 2)) 0 * 256 + getD s (i + (k + 3)) 0
-numberAt-four s i k = rw (← add-assoc i k 1, ← add-assoc i k 2, ← add-assoc i k 3, add-one, add-two, add-three) (omega arith)
-
 pub numberAt-be : (w n : ℕ) (a b : List ℕ) → n < 256 ^ w → numberAt w (a ++ be w n ++ b) (length a) ≡ n
 numberAt-be w n a b h =
     ap number
@@ -103,3 +99,15 @@ be-numberAt w s i h fits =
     ap (λ (l : List ℕ). be w (number l)) (bytesAt-part w s i fits)
     ∙ ap (λ (k : ℕ). be k (number (take w (drop i s)))) (sym (length-take-le w (drop i s) (omega (arith, length-drop i s))))
     ∙ be-number (bytes-take w (bytes-drop i h))
+
+-- ---- two, four and eight bytes from a place, as they are read
+
+pub numberAt-two : (s : List ℕ) (i : ℕ) → numberAt 2 s i ≡ getD s (i + 0) 0 * 256 + getD s (i + 1) 0
+numberAt-two s i = rw (add-zero i, add-one) (omega arith)
+
+pub numberAt-four : (s : List ℕ) (i k : ℕ)
+    → numberAt 4 s (i + k) ≡ getD s (i + k) 0 * 16777216 + getD s (i + (k + 1)) 0 * 65536 + getD s (i + (k + 2)) 0 * 256 + getD s (i + (k + 3)) 0
+numberAt-four s i k = rw (← add-assoc i k 1, ← add-assoc i k 2, ← add-assoc i k 3, add-one, add-two, add-three) (omega arith)
+
+pub numberAt-eight : (s : List ℕ) (i : ℕ) → numberAt 8 s i ≡ numberAt 4 s (i + 0) * 4294967296 + numberAt 4 s (i + 4)
+numberAt-eight s i = rw (add-zero i, add-four) (omega arith)

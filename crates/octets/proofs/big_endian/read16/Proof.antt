@@ -1,9 +1,9 @@
 -- `octets::big_endian::read16` meets its contract, by its two bytes.
 -- Assumes nothing.
-use native.Mathlib.Nat.{add-zero}
-use native.Mathlib.Numerals.{add-one}
+use mathlib.Core.Path.{sym}
 use native.Mathlib.Omega.{arith}
 use borrow.Author.Needs.{needs}
+use Rattle.octets.proofs.BigEndian.{numberAt-two}
 use Rattle.octets.proofs.big_endian.read16.Statement.{statement}
 use Rattle.octets.proofs.big_endian.read16.Tie as tie
 
@@ -20,7 +20,9 @@ add-result : tie.Need-add-result
 add-result c = search needs
 
 returns : tie.Need-returns
-returns c = (rw (c .before .byte-at .ensures .0, c .byte-at2 .ensures .0, add-zero (c .before .before .before .args .i), add-one) (omega arith), omega arith)
+returns c =
+    let a = c .before .before .before .args in
+    (rw (c .before .byte-at .ensures .0, c .byte-at2 .ensures .0) (sym (numberAt-two (a .s .now) (a .i))), omega arith)
 
 pub read16-spec : {M : Type 1} → statement M
 read16-spec =

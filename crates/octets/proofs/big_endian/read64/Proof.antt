@@ -1,9 +1,8 @@
 -- `octets::big_endian::read64` meets its contract, by its two halves of four bytes.
 -- Assumes nothing.
-use native.Mathlib.Nat.{add-zero}
-use native.Mathlib.Numerals.{add-four}
-use native.Mathlib.Omega.{arith}
+use mathlib.Core.Path.{sym}
 use borrow.Author.Needs.{needs}
+use Rattle.octets.proofs.BigEndian.{numberAt-eight}
 use Rattle.octets.proofs.big_endian.read64.Statement.{statement}
 use Rattle.octets.proofs.big_endian.read64.Tie as tie
 
@@ -20,7 +19,9 @@ add-result : tie.Need-add-result
 add-result c = search needs
 
 returns : tie.Need-returns
-returns c = rw (c .before .four-at .ensures .0, c .four-at2 .ensures .0, add-zero (c .before .before .before .args .i), add-four) (omega arith)
+returns c =
+    let a = c .before .before .before .args in
+    rw (c .before .four-at .ensures .0, c .four-at2 .ensures .0) (sym (numberAt-eight (a .s .now) (a .i)))
 
 pub read64-spec : {M : Type 1} → statement M
 read64-spec =
