@@ -1,7 +1,7 @@
 -- The block cipher over lent bytes (document 01, "Ciphers"): a lent key has 32 bytes and a lent block 16, else 2.
 -- Assumes nothing.
 use Prim.Native.Nat.{ℕ}
-use mathlib.Core.Bool.{not, _||_}
+use mathlib.Core.Bool.{Bool, not, _||_}
 use mathlib.Core.List.{List, [], _∷_}
 use lib.Dec.{eqb}
 use lib.ListN.{length}
@@ -17,8 +17,11 @@ keySize = 32
 abbrev pub blockSize : ℕ
 blockSize = 16
 
+abbrev pub wrongLengths : List ℕ → List ℕ → Bool
+wrongLengths key block = not (eqb (length key) keySize) || not (eqb (length block) blockSize)
+
 unfoldable pub blockNumber : List ℕ → List ℕ → ℕ
-blockNumber key block = lowest ((2, not (eqb (length key) keySize) || not (eqb (length block) blockSize)) ∷ [])
+blockNumber key block = lowest ((2, wrongLengths key block) ∷ [])
 
 -- the number, and the block after it: what f makes of it under the key's schedule, or the block as it was
 unfoldable pub blockAnswer : (List State → List ℕ → List ℕ) → List ℕ → List ℕ → ℕ × List ℕ

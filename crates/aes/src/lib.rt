@@ -18,10 +18,11 @@ use state::load;
 use state::store;
 ghost use mathlib.Core.Path.{_≡_};
 ghost use lib.ListN.{length};
+ghost use Rattle.octets.specs.Lent.{over};
 ghost use Rattle.aes.specs.Cipher.{cipher};
 ghost use Rattle.aes.specs.InvCipher.{invCipher};
 ghost use Rattle.aes.specs.KeyExpansion.{schedule};
-ghost use Rattle.aes.specs.Calls.{encryptBlock, decryptBlock};
+ghost use Rattle.aes.specs.Calls.{wrongLengths, encryptBlock, decryptBlock};
 
 pub fn expand_key(key: [u8; 32]) -> [[[u8; 4]; 4]; 15]
     ensures { λ r. ⌜ r ≡ schedule key ⌝ }
@@ -66,31 +67,37 @@ fn block_of(block: &[u8]) -> [u8; 16]
     b
 }
 
+fn wrong_lengths(key: &[u8], block: &[u8]) -> bool
+    ensures { λ r. ⌜ r ≡ wrongLengths (now (key .entry)) (now (block .entry)) ⌝ }
+{
+    (key.len() != 32) | (block.len() != 16)
+}
+
+// The result over the block, and 0.
+fn give(block: &mut [u8], done: [u8; 16]) -> u8
+    ensures { λ r. ⌜ (r ≡ 0) × (now (block .exit) ≡ over done (now (block .entry))) ⌝ }
+{
+    put(block, &done);
+    0
+}
+
 // The block is changed in place, or not at all.
 pub fn encrypt_block(key: &[u8], block: &mut [u8]) -> u8
     ensures { λ r. ⌜ encryptBlock (now (key .entry)) (now (block .entry)) ≡ (r, now (block .exit)) ⌝ }
 {
-    if key.len() != 32 {
-        return 2;
-    }
-    if block.len() != 16 {
+    if wrong_lengths(key, block) {
         return 2;
     }
     let done = encrypt(expand_key(key_of(key)), block_of(block));
-    put(block, &done);
-    0
+    give(block, done)
 }
 
 pub fn decrypt_block(key: &[u8], block: &mut [u8]) -> u8
     ensures { λ r. ⌜ decryptBlock (now (key .entry)) (now (block .entry)) ≡ (r, now (block .exit)) ⌝ }
 {
-    if key.len() != 32 {
-        return 2;
-    }
-    if block.len() != 16 {
+    if wrong_lengths(key, block) {
         return 2;
     }
     let done = decrypt(expand_key(key_of(key)), block_of(block));
-    put(block, &done);
-    0
+    give(block, done)
 }

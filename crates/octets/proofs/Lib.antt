@@ -4,3 +4,4 @@ pub mod BigEndian
 pub mod Xor
 pub mod Same
 pub mod Lent
+pub mod Tests

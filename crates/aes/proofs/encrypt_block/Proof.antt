@@ -1,65 +1,61 @@
--- `aes::encrypt_block` meets its contract: each return by its test, and by what each call ensures.
+-- `aes::encrypt_block` meets its contract: each return by the test of the lengths, and by what each call ensures.
 -- Assumes nothing.
 use borrow.Author.Needs.{needs}
+use mathlib.Core.Path.{_≡_, sym, _∙_}
+use mathlib.Core.Bool.{false}
+use mathlib.Core.List.{List}
+use Prim.Native.Nat.{ℕ}
 use denote.Ref.{now}
 use Rattle.aes.specs.Cipher.{cipher}
-use Rattle.aes.proofs.Calls.{wrong-key, wrong-block, done}
+use Rattle.aes.specs.Calls.{wrongLengths}
+use Rattle.aes.proofs.Calls.{key-right, block-right, refused, done}
 use Rattle.aes.proofs.encrypt_block.Statement.{statement}
 use Rattle.aes.proofs.encrypt_block.Tie as tie
 
+abbrev start : tie.Else1 → tie.Start
+start c = c .before .before .before .before .before
+
+abbrev key : tie.Else1 → List ℕ
+key c = now (start c .args .key)
+
+abbrev block : tie.Else1 → List ℕ
+block c = now (start c .args .block)
+
+right : (c : tie.Else1) → wrongLengths (key c) (block c) ≡ false
+right c = sym (c .before .wrong-lengths .ensures) ∙ c .if1 .left
+
 returns : tie.Need-returns
-returns c =
-    let a = c .before .before .before .args in
-    wrong-key cipher (now (a .key)) (now (a .block)) (c .if1 .taken)
+returns c = refused cipher _ _ (sym (c .before .wrong-lengths .ensures) ∙ c .if1 .taken)
+
+key-of-requires : tie.Need-key-of-requires
+key-of-requires c κs = key-right (key c) (block c) (right c)
+
+block-of-requires : tie.Need-block-of-requires
+block-of-requires c κs =
+    let tested = c .before .before .before in
+    block-right (key tested) (block tested) (right tested)
 
 returns-2 : tie.Need-returns-2
 returns-2 c =
-    let a = c .before .before .before .before .args in
-    wrong-block cipher (now (a .key)) (now (a .block)) (c .before .if1 .left) (c .if2 .taken)
-
-key-of-requires : tie.Need-key-of-requires
-key-of-requires c κs = search needs
-
-expand-key-requires : tie.Need-expand-key-requires
-expand-key-requires c κs = search needs
-
-block-of-requires : tie.Need-block-of-requires
-block-of-requires c κs = search needs
-
-encrypt-requires : tie.Need-encrypt-requires
-encrypt-requires c κs = search needs
-
-slice-aggregate-put : tie.Need-slice-aggregate-put
-slice-aggregate-put c = search needs
-
-put-requires : tie.Need-put-requires
-put-requires c κs = search needs
-
-same-length : tie.Need-same-length
-same-length c = search needs
-
-returns-3 : tie.Need-returns-3
-returns-3 c =
-    let put = c .before .before in
-    let ran = put .before .before .before in
+    let given = c .before .before in
+    let ran = given .before .before in
     let read = ran .before in
     let keys = read .before .before in
     let key-read = keys .before in
-    let right = key-read .before in
-    done cipher _ _ (key-read .key-of .result) (read .block-of .result) (ran .encrypt .result) _ (keys .expand-key .result) (right .before .if1 .left) (right .if2 .left)
-    (key-read .key-of .ensures) (read .block-of .ensures) (keys .expand-key .ensures) (ran .encrypt .ensures) (put .put .ensures)
+    done cipher _ _ (key-read .key-of .result) (read .block-of .result) (ran .encrypt .result) _ (keys .expand-key .result) _ (right (key-read .before))
+    (key-read .key-of .ensures) (read .block-of .ensures) (keys .expand-key .ensures) (ran .encrypt .ensures) (given .give .ensures)
 
 pub encrypt-block-spec : {M : Type 1} → statement M
 encrypt-block-spec =
     tie.close
     (tie.spec
+    (λ c κs. search needs)
+    (λ c. search needs)
     returns
-    returns-2
     key-of-requires
-    expand-key-requires
+    (λ c κs. search needs)
     block-of-requires
-    encrypt-requires
-    slice-aggregate-put
-    put-requires
-    same-length
-    returns-3)
+    (λ c κs. search needs)
+    (λ c κs. search needs)
+    (λ c. search needs)
+    returns-2)

@@ -1,0 +1,39 @@
+# Sourced by the scripts that build or run x86-64 code. Sets
+#   kit   the Rattle kit's folder
+#   cc    the C compiler for x86-64, which is what libspadeswirl.a is for
+#   run   what runs such a program here: nothing on x86-64, the kit's emulator on Arm
+# and gives `need COMMAND PACKAGE`, which installs a Debian package where a command is missing.
+
+need() {
+    command -v "$1" >/dev/null 2>&1 && return 0
+    echo "$1 is missing: installing $2"
+    install_package "$2"
+    command -v "$1" >/dev/null 2>&1 || { echo "$1 is missing, and installing $2 did not bring it"; return 1; }
+}
+
+# Installs a package, as root or by sudo; the list of packages is fetched once.
+install_package() {
+    as=; [ "$(id -u)" = 0 ] || as=sudo
+    [ -n "${packages_listed:-}" ] || { $as apt-get update -q >/dev/null; packages_listed=1; }
+    DEBIAN_FRONTEND=noninteractive $as apt-get install -q -y --no-install-recommends "$1" >/dev/null
+}
+
+command -v rt >/dev/null 2>&1 || { echo "rt, the Rattle kit's command, is not on the PATH"; exit 1; }
+kit=$(dirname "$(dirname "$(rt doc)")")
+
+case $(uname -m) in
+x86_64)
+    need gcc gcc || exit 1
+    [ -e /usr/include/stdio.h ] || install_package libc6-dev || exit 1
+    cc="gcc -static" run=
+    ;;
+aarch64)
+    need x86_64-linux-gnu-gcc gcc-x86-64-linux-gnu || exit 1
+    [ -e /usr/x86_64-linux-gnu/include/stdio.h ] || install_package libc6-dev-amd64-cross || exit 1
+    cc="x86_64-linux-gnu-gcc -static" run=$kit/on/aarch64/toolchain/bin/qemu-x86_64
+    ;;
+*)
+    echo "the kit has no toolchain for $(uname -m)"
+    exit 1
+    ;;
+esac
