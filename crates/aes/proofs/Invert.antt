@@ -60,7 +60,7 @@ module _ {s : State} (w : IsState s) where
         bytes = λ c r. sum4-byte (λ j. times (w .at c j) (getD k ((j + 4 - r) % 4) 0)) (λ j. times-byte (getD k ((j + 4 - r) % 4) 0) (w .bytes c j));
       }
 
-  add-state : (k : State) → IsKey k → IsState (addRoundKey s k)
+  pub add-state : (k : State) → IsKey k → IsState (addRoundKey s k)
   add-state k hk =
       record {
         at = λ c r. bitXor (w .at c r) (getD (column k c) r 0);
@@ -146,7 +146,7 @@ module _ {s : State} (w : IsState s) (k : State) (hk : IsKey k) where
       ∙ ap scrambled (add-add (unscrambled-state w) k) ∙ scrambled-unscrambled w
 
 module _ (ks : List State) (keys : AreKeys ks) where
-  rounds-state : (n : ℕ) {s : State} → IsState s → IsState (rounds ks n s)
+  pub rounds-state : (n : ℕ) {s : State} → IsState s → IsState (rounds ks n s)
   unfolding rounds
   rounds-state zero w = w
   rounds-state (suc n) w = round-state (rounds-state n w) (getD ks (suc n) []) (keys (suc n))
@@ -171,7 +171,7 @@ module _ (ks : List State) (keys : AreKeys ks) where
 
 -- blocks
 
-block-state : {b : List ℕ} → Bytes b → IsState (stateFrom b)
+pub block-state : {b : List ℕ} → Bytes b → IsState (stateFrom b)
 block-state {b} w = record { at = λ c r. getD b (r + 4 * c) 0; is = refl; bytes = λ c r. w .byte (r + 4 * c) }
 
 state-again : {s : State} → IsState s → stateFrom (bytesOf s) ≡ s

@@ -5,3 +5,4 @@ pub mod Xor
 pub mod Same
 pub mod Lent
 pub mod Tests
+pub mod Arrays

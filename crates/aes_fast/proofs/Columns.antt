@@ -1,0 +1,37 @@
+-- Columns as words of 32 bits: there and back, and exclusive or of words adds the columns.
+-- Assumes nothing.
+use mathlib.Core.Path.{_≡_, ap, _∙_}
+use mathlib.Core.List.{[], _∷_}
+use Prim.Native.Nat.{ℕ, _+_, _*_, _/_, _%_, _^_, _<_}
+use native.Mathlib.Omega.{arith}
+use lib.Bits.{bitXor, xor-shr, xor-mod}
+use Rattle.aes_field.specs.Words.{columnOf}
+use Rattle.aes.specs.Cipher.{addColumn}
+use Rattle.aes_fast.specs.ByTables.{columnFrom}
+use Rattle.aes_fast.specs.Right.{wordFrom}
+
+-- lists of two and of four are equal by their elements
+
+pub two : {A : Type 0} {a b a′ b′ : A} → a ≡ a′ → b ≡ b′ → a ∷ b ∷ [] ≡ a′ ∷ b′ ∷ []
+two p q = cc
+
+pub four : {A : Type 0} {a b c d a′ b′ c′ d′ : A} → a ≡ a′ → b ≡ b′ → c ≡ c′ → d ≡ d′ → a ∷ b ∷ c ∷ d ∷ [] ≡ a′ ∷ b′ ∷ c′ ∷ d′ ∷ []
+four p q r s = cc
+
+-- ---- exclusive or
+
+xor-row : (a b k : ℕ) → bitXor a b / 2 ^ k % 2 ^ 8 ≡ bitXor (a / 2 ^ k % 2 ^ 8) (b / 2 ^ k % 2 ^ 8)
+xor-row a b k = ap (λ (x : ℕ). x % 2 ^ 8) (xor-shr a b k) ∙ xor-mod (a / 2 ^ k) (b / 2 ^ k) 8
+
+pub columnFrom-xor : (a b : ℕ) → columnFrom (bitXor a b) ≡ addColumn (columnFrom a) (columnFrom b)
+unfolding columnFrom
+columnFrom-xor a b = four (xor-mod a b 8) (xor-row a b 8) (xor-row a b 16) (xor-row a b 24)
+
+-- ---- of bytes
+
+pub columnFrom-four : (a b c d : ℕ) → a < 256 → b < 256 → c < 256 → d < 256 → columnFrom (a + b * 256 + c * 65536 + d * 16777216) ≡ a ∷ b ∷ c ∷ d ∷ []
+unfolding columnFrom
+columnFrom-four a b c d ha hb hc hd = four (omega arith) (omega arith) (omega arith) (omega arith)
+
+pub columnFrom-wordFrom : (f : ℕ → ℕ) → ((r : ℕ) → f r < 256) → columnFrom (wordFrom (columnOf f)) ≡ columnOf f
+columnFrom-wordFrom f h = columnFrom-four (f 0) (f 1) (f 2) (f 3) (h 0) (h 1) (h 2) (h 3)

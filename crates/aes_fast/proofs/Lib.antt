@@ -1,0 +1,6 @@
+mod Columns
+mod Entries
+mod Steps
+mod Parameters
+mod Cipher
+pub mod Laws

@@ -1,0 +1,46 @@
+-- The cipher by four tables of words: what any tables give. `cipherBy` is shut, as `cipher` is.
+-- Assumes nothing.
+use Prim.Native.Nat.{ℕ, zero, suc, _+_, _/_, _%_}
+use mathlib.Core.List.{List, [], _∷_}
+use lib.ListN.{getD}
+use Rattle.aes_field.specs.Words.{Column}
+use Rattle.aes.specs.State.{State, column, stateOf, stateFrom, bytesOf}
+use Rattle.aes.specs.Cipher.{addColumn, addRoundKey}
+pub mod Inside
+
+abbrev pub Tables : Type 0
+Tables = List (List ℕ)
+
+-- a word of 32 bits as a column, row 0 lowest
+unfoldable pub columnFrom : ℕ → Column
+columnFrom w = w % 256 ∷ w / 256 % 256 ∷ w / 65536 % 256 ∷ w / 16777216 % 256 ∷ []
+
+-- what table n has for the byte a
+abbrev pub entryAt : Tables → ℕ → ℕ → Column
+entryAt t n a = columnFrom (getD (getD t n []) a 0)
+
+-- the byte in row r that ShiftRows brings to column c
+abbrev pub shifted : State → ℕ → ℕ → ℕ
+shifted s c r = getD (column s ((c + r) % 4)) r 0
+
+-- a column of a round: for the bytes a, b, c and d, in rows 0 to 3, what each one's table has, and the key
+abbrev pub roundColumnBy : Tables → ℕ → ℕ → ℕ → ℕ → Column → Column
+roundColumnBy t a b c d k = addColumn (addColumn (addColumn (addColumn (entryAt t 0 a) (entryAt t 1 b)) (entryAt t 2 c)) (entryAt t 3 d)) k
+
+-- a column of the last round: row 1 of what table 0 has for each byte, and the key
+abbrev pub lastColumnBy : Tables → ℕ → ℕ → ℕ → ℕ → Column → Column
+lastColumnBy t a b c d k = addColumn (getD (entryAt t 0 a) 1 0 ∷ getD (entryAt t 0 b) 1 0 ∷ getD (entryAt t 0 c) 1 0 ∷ getD (entryAt t 0 d) 1 0 ∷ []) k
+
+unfoldable pub roundBy : Tables → State → State → State
+roundBy t s k = stateOf (λ c. roundColumnBy t (shifted s c 0) (shifted s c 1) (shifted s c 2) (shifted s c 3) (column k c))
+
+unfoldable pub lastRoundBy : Tables → State → State → State
+lastRoundBy t s k = stateOf (λ c. lastColumnBy t (shifted s c 0) (shifted s c 1) (shifted s c 2) (shifted s c 3) (column k c))
+
+-- rounds 1 to n
+unfoldable pub roundsBy : Tables → List State → ℕ → State → State
+roundsBy t ks zero s = s
+roundsBy t ks (suc n) s = roundBy t (roundsBy t ks n s) (getD ks (suc n) [])
+
+pub cipherBy : Tables → List State → List ℕ → List ℕ
+cipherBy t ks b = bytesOf (lastRoundBy t (roundsBy t ks 13 (addRoundKey (stateFrom b) (getD ks 0 []))) (getD ks 14 []))

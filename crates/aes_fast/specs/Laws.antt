@@ -1,0 +1,36 @@
+-- What a call of the fast way says, and what it promises to the crates above it, as statements; proofs/Laws.antt proves each.
+-- Assumes nothing.
+use mathlib.Core.Path.{_≡_}
+use Prim.Native.Nat.{ℕ}
+use mathlib.Core.List.{List, [], _∷_}
+use Rattle.octets.specs.Bytes.{Bytes}
+use Rattle.aes.specs.State.{State}
+use Rattle.aes.specs.Cipher.{cipher}
+use Rattle.aes.specs.KeyExpansion.{schedule}
+use Rattle.aes_fast.specs.ByTables.{Tables, cipherBy}
+use Rattle.aes_fast.specs.Right.{roundTables, Right}
+
+-- r is the block b ciphered: by the lent tables, whatever they are, and so by FIPS 197 where they are the right ones
+pub record Ciphered (t : Tables) (ks : List State) (b r : List ℕ) : Type 0 where
+  pub by-tables : r ≡ cipherBy t ks b
+  pub by-cipher : Right t → r ≡ cipher ks b
+
+-- the same of two blocks
+pub record CipheredTwo (t : Tables) (ks : List State) (a b : List ℕ) (r : List (List ℕ)) : Type 0 where
+  pub by-tables : r ≡ cipherBy t ks a ∷ cipherBy t ks b ∷ []
+  pub by-cipher : Right t → r ≡ cipher ks a ∷ cipher ks b ∷ []
+
+-- the tables that are made are right
+abbrev pub RoundTablesRight : Type 0
+RoundTablesRight = Right roundTables
+
+-- with right tables it is the cipher, under the schedule of any key of bytes
+abbrev pub CipherByRight : Type 0
+CipherByRight = (t : Tables) (key b : List ℕ) → Right t → Bytes key → Bytes b → cipherBy t (schedule key) b ≡ cipher (schedule key) b
+
+-- what meets a call's statement is equal, whatever the tables
+abbrev pub CipheredUnique : Type 0
+CipheredUnique = (t : Tables) (ks : List State) (b r r′ : List ℕ) → Ciphered t ks b r → Ciphered t ks b r′ → r ≡ r′
+
+abbrev pub CipheredTwoUnique : Type 0
+CipheredTwoUnique = (t : Tables) (ks : List State) (a b : List ℕ) (r r′ : List (List ℕ)) → CipheredTwo t ks a b r → CipheredTwo t ks a b r′ → r ≡ r′

@@ -1,0 +1,3 @@
+pub mod ByTables
+pub mod Right
+pub mod Laws
