@@ -1,29 +1,23 @@
 -- The answers over lent bytes, for any cipher f.
 -- Assumes nothing.
-use mathlib.Core.Path.{_≡_, sym, _∙_}
-use mathlib.Core.Bool.{true, false, not}
+use mathlib.Core.Path.{_≡_}
+use mathlib.Core.Bool.{true, false}
 use mathlib.Core.List.{List}
 use Prim.Native.Nat.{ℕ}
-use lib.Dec.{eqb}
-use lib.ListN.{length, replicate, length-replicate}
-use borrow.Author.Tests.{eqb-true, not-false}
-use Rattle.octets.specs.Lent.{over}
+use lib.ListN.{length}
+use Rattle.octets.specs.Lent.{isNot, over}
 use Rattle.octets.proofs.Tests.{or-left, or-right}
-use Rattle.octets.proofs.Lent.{over-whole}
+use Rattle.octets.proofs.Lent.{isNot-false}
 use Rattle.aes.specs.State.{State}
 use Rattle.aes.specs.KeyExpansion.{schedule}
 use Rattle.aes.specs.Calls.{keySize, blockSize, wrongLengths, blockNumber, blockAnswer}
 
--- a string copied over as many zeros
-pub copied : (s : List ℕ) (n : ℕ) → length s ≡ n → over s (replicate n 0) ≡ s
-copied s n e = over-whole s (replicate n 0) (e ∙ sym (length-replicate n 0))
-
 module _ (key block : List ℕ) (right : wrongLengths key block ≡ false) where
   pub key-right : length key ≡ 32
-  key-right = eqb-true (length key) keySize (not-false _ (or-left (not (eqb (length key) keySize)) (not (eqb (length block) blockSize)) right))
+  key-right = isNot-false keySize key (or-left (isNot keySize key) (isNot blockSize block) right)
 
   pub block-right : length block ≡ 16
-  block-right = eqb-true (length block) blockSize (not-false _ (or-right (not (eqb (length key) keySize)) (not (eqb (length block) blockSize)) right))
+  block-right = isNot-false blockSize block (or-right (isNot keySize key) (isNot blockSize block) right)
 
 module _ (f : List State → List ℕ → List ℕ) (key block : List ℕ) where
   pub refused : wrongLengths key block ≡ true → blockAnswer f key block ≡ (2, block)

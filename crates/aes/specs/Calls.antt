@@ -1,11 +1,9 @@
 -- The block cipher over lent bytes (document 01, "Ciphers"): a lent key has 32 bytes and a lent block 16, else 2.
 -- Assumes nothing.
 use Prim.Native.Nat.{ℕ}
-use mathlib.Core.Bool.{Bool, not, _||_}
+use mathlib.Core.Bool.{Bool, _||_}
 use mathlib.Core.List.{List, [], _∷_}
-use lib.Dec.{eqb}
-use lib.ListN.{length}
-use Rattle.octets.specs.Lent.{lowest, answer}
+use Rattle.octets.specs.Lent.{isNot, lowest, answer}
 use Rattle.aes.specs.State.{State}
 use Rattle.aes.specs.Cipher.{cipher}
 use Rattle.aes.specs.KeyExpansion.{schedule}
@@ -18,7 +16,7 @@ abbrev pub blockSize : ℕ
 blockSize = 16
 
 abbrev pub wrongLengths : List ℕ → List ℕ → Bool
-wrongLengths key block = not (eqb (length key) keySize) || not (eqb (length block) blockSize)
+wrongLengths key block = isNot keySize key || isNot blockSize block
 
 unfoldable pub blockNumber : List ℕ → List ℕ → ℕ
 blockNumber key block = lowest ((2, wrongLengths key block) ∷ [])

@@ -1,4 +1,4 @@
--- Big-endian numbers: for every width, writing and reading are each the other's inverse.
+-- Big-endian numbers: for every width, writing and reading are each the other's inverse, and keep joining and exclusive or.
 -- Assumes nothing.
 use mathlib.Core.Path.{_≡_, refl, sym, ap, ap₂, _∙_}
 use mathlib.Core.List.{List, [], _∷_, _++_, append-assoc}
@@ -7,13 +7,16 @@ use native.Mathlib.Nat.{pow-suc, add-zero, zero-add, zero-mul, add-mul, mul-asso
 use native.Mathlib.Nat.{mod-lt, mod-eq-of-lt, div-one, div-eq-of-lt, div-div-eq-div-mul, div-add-mod', mul-add-div-right, mul-add-mod-self-right}
 use native.Mathlib.Numerals.{add-one, add-two, add-three, add-four}
 use native.Mathlib.Omega.{arith}
+use lib.Bits.{bitXor, xor-shr, xor-mod}
 use lib.Dec.{lit<}
 use lib.ListN.{length, getD, take, drop, length-append, length-drop}
+use lib.Pow.{pow-add}
 use lib.Seq.{take-at, drop-append-seam, length-take-le}
 use Rattle.octets.specs.Bytes.{Bytes}
+use Rattle.octets.specs.Xor.{xors}
 use Rattle.octets.specs.BigEndian.{be, number, numberAt}
 use Rattle.octets.proofs.Values.{cons-equal, bytesAt-part}
-use Rattle.octets.proofs.Bytes.{bytes-nil, bytes-cons, bytes-head, bytes-tail, bytes-take, bytes-drop}
+use Rattle.octets.proofs.Bytes.{bytes-nil, bytes-cons, bytes-head, bytes-tail, bytes-append, bytes-take, bytes-drop}
 
 -- ---- the bytes of a number
 
@@ -82,6 +85,48 @@ be-number {s = b ∷ s} h =
 
 pub be-injective : (w : ℕ) {n m : ℕ} → n < 256 ^ w → m < 256 ^ w → be w n ≡ be w m → n ≡ m
 be-injective w {n} {m} hn hm e = sym (number-be w n hn) ∙ ap number e ∙ number-be w m hm
+
+-- ---- strings and numbers put together of two
+
+pub number-append : (s t : List ℕ) → number (s ++ t) ≡ number s * 256 ^ length t + number t
+number-append [] t = sym (ap (λ (n : ℕ). n + number t) (zero-mul (256 ^ length t)) ∙ zero-add (number t))
+number-append (b ∷ s) t =
+    ap₂ (λ (n m : ℕ). b * n + m) (ap (λ (n : ℕ). 256 ^ n) (length-append s t) ∙ pow-add 256 (length s) (length t)) (number-append s t)
+    ∙ sym (add-assoc _ _ _)
+    ∙ ap (λ (n : ℕ). n + number t)
+    (ap (λ (n : ℕ). n + number s * 256 ^ length t) (sym (mul-assoc b (256 ^ length s) (256 ^ length t))) ∙ sym (add-mul _ _ _))
+
+pub be-append : (v w a b : ℕ) → a < 256 ^ v → b < 256 ^ w → be (v + w) (a * 256 ^ w + b) ≡ be v a ++ be w b
+be-append v w a b ha hb =
+    sym
+    (ap₂ be (length-append (be v a) (be w b) ∙ ap₂ _+_ (length-be v a) (length-be w b))
+    (number-append (be v a) (be w b)
+    ∙ ap₂ (λ (n m : ℕ). n * 256 ^ m + number (be w b)) (number-be v a ha) (length-be w b)
+    ∙ ap (λ (n : ℕ). a * 256 ^ w + n) (number-be w b hb)))
+    ∙ be-number (bytes-append (bytes-be v a) (bytes-be w b))
+
+-- the last byte apart
+pub be-last : (w n : ℕ) → be (suc w) n ≡ be w (n / 256) ++ n % 256 ∷ []
+be-last zero n = ap (λ (x : ℕ). x % 256 ∷ []) (div-one n)
+be-last (suc w) n = cons-equal (ap (λ (x : ℕ). x % 256) first) (be-last w n)
+  where
+    first : n / 256 ^ suc w ≡ n / 256 / 256 ^ w
+    first = ap (λ (p : ℕ). n / p) (pow-suc 256 w ∙ mul-comm (256 ^ w) 256) ∙ sym (div-div-eq-div-mul n 256 (256 ^ w))
+
+-- ---- exclusive or
+
+power-two : (w : ℕ) → 256 ^ w ≡ 2 ^ (8 * w)
+power-two zero = refl
+power-two (suc w) = pow-suc 256 w ∙ ap (λ (p : ℕ). p * 256) (power-two w) ∙ sym (pow-add 2 (8 * w) 8) ∙ ap (λ (n : ℕ). 2 ^ n) next
+  where
+    next : 8 * w + 8 ≡ 8 * suc w
+    next = omega arith
+
+pub be-xor : (w a b : ℕ) → be w (bitXor a b) ≡ xors (be w a) (be w b)
+be-xor zero a b = refl
+be-xor (suc w) a b =
+    cons-equal
+    (rw (power-two w) (ap (λ (n : ℕ). n % 256) (xor-shr a b (8 * w)) ∙ xor-mod (a / 2 ^ (8 * w)) (b / 2 ^ (8 * w)) 8)) (be-xor w a b)
 
 -- ---- at a place of a string
 

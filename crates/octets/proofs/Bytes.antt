@@ -3,7 +3,7 @@
 use mathlib.Core.List.{List, [], _∷_, _++_}
 use Prim.Native.Nat.{ℕ, zero, suc, _<_}
 use lib.Dec.{lit<}
-use lib.ListN.{getD, take, drop, replicate}
+use lib.ListN.{getD, set, take, drop, replicate}
 use Rattle.octets.specs.Values.{values}
 use Rattle.octets.specs.Bytes.{Bytes}
 
@@ -36,6 +36,11 @@ pub bytes-drop : {s : List ℕ} (n : ℕ) → Bytes s → Bytes (drop n s)
 bytes-drop zero h = h
 bytes-drop {s = []} (suc n) h = bytes-nil
 bytes-drop {s = b ∷ s} (suc n) h = bytes-drop n (bytes-tail h)
+
+pub bytes-set : {s : List ℕ} {b : ℕ} (n : ℕ) → Bytes s → b < 256 → Bytes (set s n b)
+bytes-set {s = []} n h hb = bytes-nil
+bytes-set {s = x ∷ s} zero h hb = bytes-cons hb (bytes-tail h)
+bytes-set {s = x ∷ s} (suc n) h hb = bytes-cons (bytes-head h) (bytes-set n (bytes-tail h) hb)
 
 pub bytes-values : (f : ℕ → ℕ) (i n : ℕ) → ((k : ℕ) → f k < 256) → Bytes (values f i n)
 bytes-values f i zero h = bytes-nil

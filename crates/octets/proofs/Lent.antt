@@ -8,9 +8,15 @@ use native.Mathlib.Nat.{zero-min, min-zero, suc-min-suc}
 use native.Mathlib.Numerals.{add-one}
 use native.Mathlib.Omega.{arith}
 use lib.Dec.{eqb}
-use lib.ListN.{length, getD, set, take, drop, length-append, length-take, length-drop, drop-of-length-le}
+use lib.ListN.{length, getD, set, take, drop, replicate, length-replicate, length-append, length-take, length-drop, drop-of-length-le}
 use lib.Seq.{take-all, take-nil, take-suc, drop-cons, set-at, append-snoc, length-take-le}
-use Rattle.octets.specs.Lent.{over, answer}
+use borrow.Author.Tests.{eqb-true, not-false}
+use Rattle.octets.specs.Lent.{isNot, over, answer}
+
+-- ---- lengths
+
+pub isNot-false : (n : ℕ) (s : List ℕ) → isNot n s ≡ false → length s ≡ n
+isNot-false n s right = eqb-true (length s) n (not-false (eqb (length s) n) right)
 
 -- ---- over
 
@@ -19,6 +25,10 @@ over-fits s d h = ap (λ (l : List ℕ). l ++ drop (length s) d) (take-all (leng
 
 pub over-whole : (s d : List ℕ) → length s ≡ length d → over s d ≡ s
 over-whole s d e = over-fits s d (omega arith) ∙ ap (λ (l : List ℕ). s ++ l) (drop-of-length-le d {i = length s} (omega arith)) ∙ append-nil s
+
+-- a string copied over as many zeros
+pub over-zeros : (s : List ℕ) (n : ℕ) → length s ≡ n → over s (replicate n 0) ≡ s
+over-zeros s n e = over-whole s (replicate n 0) (e ∙ sym (length-replicate n 0))
 
 pub over-empty : (d : List ℕ) → over [] d ≡ d
 over-empty d = ap (λ (l : List ℕ). l ++ d) (take-nil (length d))

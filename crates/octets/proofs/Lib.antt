@@ -4,5 +4,7 @@ pub mod BigEndian
 pub mod Xor
 pub mod Same
 pub mod Lent
+pub mod Blocks
+pub mod Running
 pub mod Tests
 pub mod Arrays

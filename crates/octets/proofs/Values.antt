@@ -42,6 +42,12 @@ module _ {A : Type 0} (f : ℕ → A) where
   values-later i zero = refl
   values-later i (suc n) = ap (λ (l : List A). f (suc i) ∷ l) (values-later (suc i) n)
 
+  -- counted from i, in the words of i + k
+  pub values-from : (i j n : ℕ) → values f (i + j) n ≡ values (λ k. f (i + k)) j n
+  values-from i j zero = refl
+  values-from i j (suc n) =
+      ap (λ (l : List A). f (i + j) ∷ l) (ap (λ (k : ℕ). values f k n) (sym (add-suc i j)) ∙ values-from i (suc j) n)
+
   -- two functions that agree at every place in question
   pub values-same : (g : ℕ → A) (i n : ℕ) → ((k : ℕ) → i ≤ k → k < i + n → f k ≡ g k) → values f i n ≡ values g i n
   values-same g i zero h = refl

@@ -1,7 +1,7 @@
 -- Exclusive or of numbers and of strings: associative, commutative, its own inverse, and byte by byte.
 -- Assumes nothing.
 use mathlib.Core.Path.{_≡_, refl, sym, ap, ap₂, _∙_}
-use mathlib.Core.List.{List, [], _∷_}
+use mathlib.Core.List.{List, [], _∷_, _++_}
 use Prim.Native.Nat.{ℕ, zero, suc, _+_, _*_, _/_, _%_, _≤_, _<_}
 use native.Mathlib.Nat.{le-of-suc-le-suc, not-suc-le-zero, mod-lt}
 use native.Mathlib.Omega.{arith}
@@ -94,6 +94,12 @@ pub xors-zeros : (l : List ℕ) (n : ℕ) → length l ≡ n → xors l (replica
 xors-zeros [] n h = refl
 xors-zeros (x ∷ l) zero h = absurd (omega arith)
 xors-zeros (x ∷ l) (suc n) h = cons-equal (xor-zero-r x) (xors-zeros l n (omega arith))
+
+pub xors-append : (a b c d : List ℕ) → length a ≡ length c → xors (a ++ b) (c ++ d) ≡ xors a c ++ xors b d
+xors-append [] b [] d e = refl
+xors-append [] b (z ∷ c) d e = absurd (omega arith)
+xors-append (x ∷ a) b [] d e = absurd (omega arith)
+xors-append (x ∷ a) b (z ∷ c) d e = cons-equal refl (xors-append a b c d (omega arith))
 
 pub length-xors : (p s : List ℕ) → length p ≤ length s → length (xors p s) ≡ length p
 length-xors [] s h = refl

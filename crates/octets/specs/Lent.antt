@@ -1,7 +1,7 @@
 -- Document 01, "Numbers given back": the number of a call, and what a lent output then holds.
 -- Assumes nothing.
 use Prim.Native.Nat.{ℕ}
-use mathlib.Core.Bool.{Bool, true, false}
+use mathlib.Core.Bool.{Bool, true, false, not}
 use mathlib.Core.List.{List, [], _∷_, _++_}
 use lib.Dec.{eqb}
 use lib.ListN.{length, take, drop}
@@ -14,6 +14,10 @@ when false a b = b
 abbrev pub lowest : List (ℕ × Bool) → ℕ
 lowest [] = 0
 lowest (n ∷ ns) = when (n .1) (n .0) (lowest ns)
+
+-- whether a lent string has another length than n
+abbrev pub isNot : ℕ → List ℕ → Bool
+isNot n s = not (eqb (length s) n)
 
 -- s written over the front of d, as far as d reaches
 abbrev pub over : List ℕ → List ℕ → List ℕ

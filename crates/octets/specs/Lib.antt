@@ -4,3 +4,5 @@ pub mod BigEndian
 pub mod Xor
 pub mod Same
 pub mod Lent
+pub mod Blocks
+pub mod Running

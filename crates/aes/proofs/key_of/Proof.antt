@@ -2,7 +2,7 @@
 -- Assumes nothing.
 use borrow.Author.Needs.{needs}
 use mathlib.Core.Path.{_∙_}
-use Rattle.aes.proofs.Calls.{copied}
+use Rattle.octets.proofs.Lent.{over-zeros}
 use Rattle.aes.proofs.key_of.Statement.{statement}
 use Rattle.aes.proofs.key_of.Tie as tie
 
@@ -13,7 +13,7 @@ put-requires : tie.Need-put-requires
 put-requires c κs = search needs
 
 returns : tie.Need-returns
-returns c = c .before .put .ensures ∙ copied _ 32 (c .before .before .before .before .pre)
+returns c = c .before .put .ensures ∙ over-zeros _ 32 (c .before .before .before .before .pre)
 
 pub key-of-spec : {M : Type 1} → statement M
 key-of-spec = tie.close (tie.spec slice-aggregate-put put-requires returns)
