@@ -1,0 +1,6 @@
+pub mod Wide
+pub mod Multiply
+pub mod Entries
+pub mod Laws
+pub mod Hashed
+pub mod Vectors

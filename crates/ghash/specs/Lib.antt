@@ -1,0 +1,6 @@
+pub mod Field
+pub mod Product
+pub mod Ghash
+pub mod Laws
+pub mod Table
+pub mod Words

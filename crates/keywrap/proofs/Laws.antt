@@ -1,0 +1,83 @@
+-- The laws of specs/Laws.antt: they rest on the cipher's two round trips, and on nothing else inside it.
+-- Assumes nothing.
+use mathlib.Core.Path.{_≡_, refl, sym, ap, _∙_}
+use mathlib.Core.Bool.{Bool, true, false, not}
+use mathlib.Core.List.{List}
+use Prim.Native.Nat.{ℕ, _≤_}
+use native.Mathlib.Omega.{arith}
+use borrow.Author.Tests.{eq-eqb, le-ltb}
+use lib.ListN.{length, take}
+use lib.Seq.{take-at}
+use Rattle.octets.specs.Lent.{over}
+use Rattle.octets.proofs.Lent.{over-fits, one-answer}
+use Rattle.aes.specs.KeyExpansion.{schedule}
+use Rattle.keywrap.specs.Wrap.{wrapped, startRight, keyOf}
+use Rattle.keywrap.specs.Calls.{unwrapAnswer}
+use Rattle.keywrap.specs.Laws.{WrapsTo, UnwrapsTo, UnwrapsExactly, OneKey, ElseNine, WrappedLength, WrappedBytes, WrapUnique, UnwrapUnique}
+use Rattle.keywrap.proofs.Parts.{length-joined, bytes-joined}
+use Rattle.keywrap.proofs.Inverse.{wrapSteps-formed, wrapSteps-good}
+use Rattle.keywrap.proofs.Calls.{unwrap-start, unwrap-key}
+use Rattle.keywrap.proofs.RoundTrip.{begin-formed, begin-good, keyOf-of, startRight-of, keyOf-size, key-wraps}
+
+-- ---- wrapped bytes
+
+pub wrapped-length : WrappedLength
+unfolding wrapped
+wrapped-length kek key =
+    let h = wrapSteps-formed (schedule kek) 24 (begin-formed key) in
+    length-joined (h .eight) ∙ omega (arith, h .five)
+
+pub wrapped-bytes : WrappedBytes
+unfolding wrapped
+wrapped-bytes kek key hk h = bytes-joined (wrapSteps-good kek hk 24 (begin-good key h) .bytes)
+
+-- ---- over lent bytes of the right lengths
+
+over-injective : (k k′ out : List ℕ) → length k ≡ 32 → length k′ ≡ 32 → 32 ≤ length out → over k out ≡ over k′ out → k ≡ k′
+over-injective k k′ out s s′ room e =
+    sym (take-at k _ 32 s) ∙ ap (take 32) (sym (over-fits k out (omega arith)) ∙ e ∙ over-fits k′ out (omega arith)) ∙ take-at k′ _ 32 s′
+
+module _ (kek w out : List ℕ) (size : length kek ≡ 32) (long : length w ≡ 40) (room : 32 ≤ length out) where
+  answers-key : startRight kek w ≡ true → unwrapAnswer kek w out ≡ (0, over (keyOf kek w) out)
+  answers-key = unwrap-key kek w out (ap not (eq-eqb _ 32 size)) (le-ltb _ 32 room) (ap not (eq-eqb _ 40 long))
+
+  answers-nine : startRight kek w ≡ false → unwrapAnswer kek w out ≡ (9, out)
+  answers-nine = unwrap-start kek w out (ap not (eq-eqb _ 32 size)) (le-ltb _ 32 room) (ap not (eq-eqb _ 40 long))
+
+-- ---- unwrapping gives a key exactly where it wraps to what was unwrapped
+
+pub unwraps-exactly : UnwrapsExactly
+unwraps-exactly kek w out k size hk long hw room = (to, from)
+  where
+    by : (t : Bool) → startRight kek w ≡ t → UnwrapsTo kek w out k → WrapsTo kek k w
+    by true start h =
+        let written = ap (λ a. a .1) (sym (answers-key kek w out size long room start) ∙ h .answers) in
+        let found : keyOf kek w ≡ k = over-injective _ k out (keyOf-size kek hk w long hw) (h .size) room written in
+        rw found at (key-wraps kek hk w long hw start)
+    by false wrong h =
+        let nine : _≡_ {A = ℕ} 9 0 = ap (λ a. a .0) (sym (answers-nine kek w out size long room wrong) ∙ h .answers) in
+        absurd (omega arith)
+
+    to : UnwrapsTo kek w out k → WrapsTo kek k w
+    to = by (startRight kek w) refl
+
+    from : WrapsTo kek k w → UnwrapsTo kek w out k
+    from h = record { size = h .size; answers = answers-key kek w out size long room (startRight-of kek hk k w h) ∙ rw (keyOf-of kek hk k w h) }
+
+pub one-key : OneKey
+one-key kek k k′ w hk h h′ = sym (keyOf-of kek hk k w h) ∙ keyOf-of kek hk k′ w h′
+
+pub else-nine : ElseNine
+else-nine kek w out size hk long hw room none = answers-nine kek w out size long room (by (startRight kek w) refl)
+  where
+    by : (t : Bool) → startRight kek w ≡ t → startRight kek w ≡ false
+    by true start = absurd (none (keyOf kek w) (key-wraps kek hk w long hw start))
+    by false wrong = wrong
+
+-- ---- one answer
+
+pub wrap-unique : WrapUnique
+wrap-unique kek key out a b p q = one-answer p q
+
+pub unwrap-unique : UnwrapUnique
+unwrap-unique kek w out a b p q = one-answer p q

@@ -1,0 +1,3 @@
+pub mod Wrap
+pub mod Calls
+pub mod Laws
