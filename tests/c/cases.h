@@ -9,7 +9,7 @@
 static unsigned long passed, failed;
 
 /* Counts one test, and says which failed. */
-static void expect(int holds, const char *name, const char *what)
+static inline void expect(int holds, const char *name, const char *what)
 {
     if (holds) {
         passed++;
@@ -20,20 +20,20 @@ static void expect(int holds, const char *name, const char *what)
 }
 
 /* The closing line, and the program's status. */
-static int report(void)
+static inline int report(void)
 {
     printf("%lu passed, %lu failed\n", passed, failed);
     return failed != 0;
 }
 
-static int digit(char c)
+static inline int digit(char c)
 {
     const char *digits = "0123456789abcdef", *at = c ? strchr(digits, c) : NULL;
     return at ? (int)(at - digits) : -1;
 }
 
 /* The bytes of a word in hex, "-" for none: their count, or -1 for a word that is no hex or too long. */
-static long unhex(const char *word, unsigned char *out, size_t room)
+static inline long unhex(const char *word, unsigned char *out, size_t room)
 {
     size_t n = strlen(word) / 2;
     if (strcmp(word, "-") == 0)

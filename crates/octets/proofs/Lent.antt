@@ -10,13 +10,16 @@ use native.Mathlib.Omega.{arith}
 use lib.Dec.{eqb}
 use lib.ListN.{length, getD, set, take, drop, replicate, length-replicate, length-append, length-take, length-drop, drop-of-length-le}
 use lib.Seq.{take-all, take-nil, take-suc, drop-cons, set-at, append-snoc, length-take-le}
-use borrow.Author.Tests.{eqb-true, not-false}
+use borrow.Author.Tests.{eqb-true, eq-eqb, not-false}
 use Rattle.octets.specs.Lent.{isNot, over, answer}
 
 -- ---- lengths
 
 pub isNot-false : (n : ℕ) (s : List ℕ) → isNot n s ≡ false → length s ≡ n
 isNot-false n s right = eqb-true (length s) n (not-false (eqb (length s) n) right)
+
+pub isNot-right : (n : ℕ) (s : List ℕ) → length s ≡ n → isNot n s ≡ false
+isNot-right n s e = rw (eq-eqb (length s) n e)
 
 -- ---- over
 

@@ -1,0 +1,37 @@
+#include <nettle/ccm.h>
+#include <nettle/gcm.h>
+#include <string.h>
+#include "peers.h"
+
+static void run(int mode, struct message *m, int seal, uint8_t *tag)
+{
+    if (mode == GCM) {
+        struct gcm_aes256_ctx c;
+        gcm_aes256_set_key(&c, m->key);
+        gcm_aes256_set_iv(&c, 12, m->iv);
+        gcm_aes256_update(&c, m->aad_len, m->aad);
+        (seal ? gcm_aes256_encrypt : gcm_aes256_decrypt)(&c, m->len, m->out, m->text);
+        gcm_aes256_digest(&c, 16, tag);
+    } else {
+        struct ccm_aes256_ctx c;
+        ccm_aes256_set_key(&c, m->key);
+        ccm_aes256_set_nonce(&c, 12, m->iv, m->aad_len, m->len, 16);
+        ccm_aes256_update(&c, m->aad_len, m->aad);
+        (seal ? ccm_aes256_encrypt : ccm_aes256_decrypt)(&c, m->len, m->out, m->text);
+        ccm_aes256_digest(&c, 16, tag);
+    }
+}
+
+static void seal(int mode, struct message *m)
+{
+    run(mode, m, 1, m->tag);
+}
+
+static int open(int mode, struct message *m)
+{
+    uint8_t tag[16];
+    run(mode, m, 0, tag);
+    return memcmp(tag, m->tag, 16) == 0;
+}
+
+const struct peer nettle = { "nettle", seal, open };

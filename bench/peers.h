@@ -1,0 +1,27 @@
+/* A library under measure: seals and opens one message, with the key set up anew each time, as a record has it. */
+#ifndef PEERS_H
+#define PEERS_H
+
+#include <stddef.h>
+#include <stdint.h>
+
+enum { GCM, CCM };
+
+struct message {
+    const uint8_t *key, *iv, *aad;
+    size_t aad_len;
+    const uint8_t *text;
+    size_t len;
+    uint8_t *out, *tag;
+};
+
+struct peer {
+    const char *name;
+    /* fills out and tag; and the way back, 1 where the tag is right */
+    void (*seal)(int mode, struct message *m);
+    int (*open)(int mode, struct message *m);
+};
+
+extern const struct peer unit, openssl, nettle, mbedtls;
+
+#endif

@@ -1,0 +1,129 @@
+-- Decryption undoes encryption, both ways, for every mode whose two directions fit each other: the laws of specs/Laws.antt, of any such mode.
+-- Assumes nothing.
+use mathlib.Core.Path.{_≡_, refl, sym, ap, ap₂, _∙_}
+use mathlib.Core.Bool.{Bool, true, false}
+use mathlib.Core.Logic.{_↔_}
+use mathlib.Core.List.{List, _++_}
+use Prim.Native.Nat.{ℕ, _+_, _≤_}
+use native.Mathlib.Omega.{arith}
+use borrow.Author.Tests.{le-ltb}
+use lib.ListN.{length, take, drop, length-append}
+use lib.Seq.{take-at, drop-at}
+use Rattle.octets.specs.Same.{same}
+use Rattle.octets.specs.Lent.{over}
+use Rattle.octets.proofs.Same.{same-equal, same-refl}
+use Rattle.octets.proofs.Lent.{over-fits, one-answer}
+use Rattle.modes.specs.Mode.{Mode, sealed}
+use Rattle.modes.specs.Calls.{decryptAnswer}
+use Rattle.modes.specs.Laws.{InRange, DecryptsTo, DecryptsExactly, OnePlaintext, ElseNine, SealedLength, Lawful}
+use Rattle.octets.proofs.Lent.{isNot-right}
+use Rattle.modes.proofs.Numbers.{sizes-right, tooLong-short, decrypt-nine, decrypt-zero}
+
+-- how a mode's two directions fit: for every key and IV the plaintext undoes the ciphertext and back, and a tag is authentic exactly where it is the tag
+pub record Fitting (m : Mode) : Type 0 where
+  pub ciphertext-length : (key iv p : List ℕ) → length (m .ciphertext key iv p) ≡ length p
+  pub tag-length : (key iv a p : List ℕ) → length (m .tag key iv a p) ≡ m .tagSize
+  pub opens : (key iv p : List ℕ) → m .plaintext key iv (m .ciphertext key iv p) ≡ p
+  pub seals : (key iv c : List ℕ) → m .ciphertext key iv (m .plaintext key iv c) ≡ c
+  pub authentic-exactly : (key iv a c t : List ℕ) → length t ≡ m .tagSize
+      → (m .authentic key iv a c t ≡ true) ↔ (m .tag key iv a (m .plaintext key iv c) ≡ t)
+
+-- a test that is `same` of two strings
+pub same-exactly : (r : Bool) (s t : List ℕ) → r ≡ same s t → (r ≡ true) ↔ (s ≡ t)
+same-exactly r s t e = (λ h. same-equal s t (sym e ∙ h), λ h. e ∙ ap (λ (l : List ℕ). same l t) h ∙ same-refl t)
+
+-- ---- strings
+
+-- two strings whose ends are as long
+append-apart : (a b c d : List ℕ) → length b ≡ length d → a ++ b ≡ c ++ d → (a ≡ c) × (b ≡ d)
+append-apart a b c d size e = (
+  sym (take-at a b (length c) fronts) ∙ ap (take (length c)) e ∙ take-at c d (length c) refl,
+  sym (drop-at a b (length c) fronts) ∙ ap (drop (length c)) e ∙ drop-at c d (length c) refl,
+)
+  where
+    fronts : length a ≡ length c
+    fronts = omega (arith, length-append a b, length-append c d, ap length e)
+
+over-same : (s t d : List ℕ) → length s ≡ length t → length t ≤ length d → over s d ≡ over t d → s ≡ t
+over-same s t d size fits e =
+    sym (take-at s (drop (length s) d) (length t) size)
+    ∙ ap (take (length t)) (sym (over-fits s d (omega arith)) ∙ e ∙ over-fits t d fits)
+    ∙ take-at t (drop (length t) d) (length t) refl
+
+zero-not-nine : {A : Type 0} {x y : A} → _≡_ {A = ℕ × A} (9, x) (0, y) → ⊥
+zero-not-nine {A} e = let z : _≡_ {A = ℕ} 9 0 = ap (λ (u : ℕ × A). u .0) e in omega arith
+
+-- ---- a mode that fits
+
+module _ (m : Mode) (fit : Fitting m) where
+  module _ (key iv a b c t out : List ℕ) (inside : InRange m key iv a b c t out) where
+    answers-nine : m .authentic key iv (a ++ b) c t ≡ false → decryptAnswer m key iv a b c t out ≡ (9, out)
+    answers-nine =
+        decrypt-nine m key iv a b c t out (sizes-right _ _ key iv (inside .key-size) (inside .iv-size)) (isNot-right _ t (inside .tag-size))
+        (tooLong-short a b c (inside .data-fits) (inside .text-fits)) (le-ltb (length out) (length c) (inside .room))
+
+    answers-zero : m .authentic key iv (a ++ b) c t ≡ true → decryptAnswer m key iv a b c t out ≡ (0, over (m .plaintext key iv c) out)
+    answers-zero =
+        decrypt-zero m key iv a b c t out (sizes-right _ _ key iv (inside .key-size) (inside .iv-size)) (isNot-right _ t (inside .tag-size))
+        (tooLong-short a b c (inside .data-fits) (inside .text-fits)) (le-ltb (length out) (length c) (inside .room))
+
+    plaintext-length : length (m .plaintext key iv c) ≡ length c
+    plaintext-length = sym (fit .ciphertext-length key iv (m .plaintext key iv c)) ∙ ap length (fit .seals key iv c)
+
+    -- the plaintext of an authentic tag, encrypted
+    seals-back : m .authentic key iv (a ++ b) c t ≡ true → sealed m key iv (a ++ b) (m .plaintext key iv c) ≡ c ++ t
+    seals-back e = ap₂ (λ (x y : List ℕ). x ++ y) (fit .seals key iv c) (fit .authentic-exactly key iv (a ++ b) c t (inside .tag-size) .0 e)
+
+    forth : (p : List ℕ) → DecryptsTo m key iv a b c t out p → sealed m key iv (a ++ b) p ≡ c ++ t
+    forth p d = go (m .authentic key iv (a ++ b) c t) refl
+      where
+        go : (r : Bool) → m .authentic key iv (a ++ b) c t ≡ r → sealed m key iv (a ++ b) p ≡ c ++ t
+        go true e =
+            ap (sealed m key iv (a ++ b))
+            (sym (over-same (m .plaintext key iv c) p out (plaintext-length ∙ sym (d .size)) (omega (arith, d .size, inside .room))
+            (ap (λ (u : ℕ × List ℕ). u .1) (one-answer (answers-zero e) (d .answers)))))
+            ∙ seals-back e
+        go false e = absurd (zero-not-nine (one-answer (answers-nine e) (d .answers)))
+
+    back : (p : List ℕ) → sealed m key iv (a ++ b) p ≡ c ++ t → DecryptsTo m key iv a b c t out p
+    back p e = record { size = sym (fit .ciphertext-length key iv p) ∙ ap length (parts .0); answers = answers-zero right ∙ ap (λ (s : List ℕ). (0, over s out)) opened }
+      where
+        parts : (m .ciphertext key iv p ≡ c) × (m .tag key iv (a ++ b) p ≡ t)
+        parts = append-apart (m .ciphertext key iv p) (m .tag key iv (a ++ b) p) c t (fit .tag-length key iv (a ++ b) p ∙ sym (inside .tag-size)) e
+
+        opened : m .plaintext key iv c ≡ p
+        opened = ap (m .plaintext key iv) (sym (parts .0)) ∙ fit .opens key iv p
+
+        right : m .authentic key iv (a ++ b) c t ≡ true
+        right = fit .authentic-exactly key iv (a ++ b) c t (inside .tag-size) .1 (ap (m .tag key iv (a ++ b)) opened ∙ parts .1)
+
+  decrypts-exactly : DecryptsExactly m
+  decrypts-exactly key iv a b c t out p inside = (forth key iv a b c t out inside p, back key iv a b c t out inside p)
+
+  one-plaintext : OnePlaintext m
+  one-plaintext key iv a p p′ e =
+      sym (fit .opens key iv p)
+      ∙ ap (m .plaintext key iv) (append-apart _ _ _ _ (fit .tag-length key iv a p ∙ sym (fit .tag-length key iv a p′)) e .0)
+      ∙ fit .opens key iv p′
+
+  else-nine : ElseNine m
+  else-nine key iv a b c t out inside none = go (m .authentic key iv (a ++ b) c t) refl
+    where
+      go : (r : Bool) → m .authentic key iv (a ++ b) c t ≡ r → decryptAnswer m key iv a b c t out ≡ (9, out)
+      go true e = absurd (none (m .plaintext key iv c) (seals-back key iv a b c t out inside e))
+      go false e = answers-nine key iv a b c t out inside e
+
+  sealed-length : SealedLength m
+  sealed-length key iv a p =
+      length-append (m .ciphertext key iv p) (m .tag key iv a p) ∙ ap₂ _+_ (fit .ciphertext-length key iv p) (fit .tag-length key iv a p)
+
+  pub fitting-lawful : Lawful m
+  fitting-lawful =
+      record {
+        decrypts-exactly = decrypts-exactly;
+        one-plaintext = one-plaintext;
+        else-nine = else-nine;
+        sealed-length = sealed-length;
+        encrypt-unique = λ key iv a b p out x y. one-answer;
+        decrypt-unique = λ key iv a b c t out x y. one-answer;
+      }

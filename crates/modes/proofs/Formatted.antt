@@ -1,0 +1,130 @@
+-- CCM's formatted blocks as the code makes them, for any f whose every value has 16 bytes: the first block, the data in two parts, and the tag.
+-- Assumes nothing.
+use mathlib.Core.Path.{_≡_, refl, sym, ap, ap₂, _∙_}
+use mathlib.Core.Bool.{Bool, true, false, not, false≢true}
+use mathlib.Core.List.{List, [], _∷_, _++_}
+use Prim.Native.Nat.{ℕ, suc, _+_, _/_, _%_, _≤_}
+use native.Mathlib.Nat.{div-one}
+use native.Mathlib.Omega.{arith}
+use borrow.Author.Tests.{eq-eqb, ne-eqb}
+use lib.Dec.{eqb, lit<}
+use lib.ListN.{length, getD, take, length-append}
+use lib.Seq.{take-at}
+use Rattle.octets.specs.Values.{values}
+use Rattle.octets.specs.BigEndian.{be}
+use Rattle.octets.specs.Xor.{xors}
+use Rattle.octets.specs.Same.{same}
+use Rattle.octets.specs.Lent.{over}
+use Rattle.octets.specs.Blocks.{cut, chain}
+use Rattle.octets.specs.Running.{absorb, close}
+use Rattle.octets.proofs.Values.{values-list}
+use Rattle.octets.proofs.Xor.{length-xors, xors-cancel}
+use Rattle.octets.proofs.Same.{same-equal, same-refl, same-differ}
+use Rattle.octets.proofs.Blocks.{cut-next, chain-append, length-chain}
+use Rattle.octets.proofs.Running.{absorb-append, close-chain}
+use Rattle.modes.specs.Counter.{counterBlock, counterAnswer, frontOf}
+use Rattle.modes.specs.Ccm.{flags, firstBlock, dataBlocks, mac, front, firstPad, text, tagOf, tagRight}
+use Rattle.modes.specs.Calls.{textMax}
+use Rattle.modes.proofs.Limits.{counterFits-three, counterAnswer-fits}
+use Rattle.modes.proofs.Stream.{length-ctr}
+
+-- ---- the first block and the counter blocks' front
+
+pub flags-some : flags true ≡ 0x7a
+flags-some = refl
+
+pub flags-none : flags false ≡ 0x3a
+flags-none = refl
+
+pub firstBlock-parts : (iv a b : List ℕ) (n : ℕ) → flags (not (eqb (length a + length b) 0)) ∷ (iv ++ be 3 n) ≡ firstBlock iv (a ++ b) n
+unfolding firstBlock
+firstBlock-parts iv a b n = rw (length-append a b)
+
+-- byte by byte
+pub first-bytes : (iv : List ℕ) (n : ℕ) → length iv ≡ 12 → values (λ k. getD iv k 0) 0 12 ++ n / 65536 % 256 ∷ n / 256 % 256 ∷ n % 256 ∷ [] ≡ iv ++ be 3 n
+first-bytes iv n size = rw (div-one n) (ap (λ (l : List ℕ). l ++ n / 65536 % 256 ∷ n / 256 % 256 ∷ n % 256 ∷ []) (values-list iv 0 12 size))
+
+pub front-bytes : (iv : List ℕ) → length iv ≡ 12 → 2 ∷ (values (λ k. getD iv k 0) 0 12 ++ 0 ∷ 0 ∷ 0 ∷ []) ≡ front iv ++ be 3 0
+front-bytes iv size = ap (λ (l : List ℕ). 2 ∷ (l ++ 0 ∷ 0 ∷ 0 ∷ [])) (values-list iv 0 12 size)
+
+pub front-base : (iv : List ℕ) → length iv ≡ 12 → frontOf false (front iv ++ be 3 0) ≡ front iv
+front-base iv size = take-at (front iv) (be 3 0) 13 (ap suc size)
+
+-- ---- the data
+
+-- 300 bytes of it begin with their length, 012Ch
+pub dataBlocks-300 : (a : List ℕ) → length a ≡ 300 → take 2 (getD (dataBlocks a) 0 []) ≡ 0x01 ∷ 0x2c ∷ []
+unfolding dataBlocks
+dataBlocks-300 a size = rw (size, cut-next (0x01 ∷ 0x2c ∷ a) (omega arith))
+
+module _ (f : List ℕ → List ℕ) where
+  pub data-none : (y a b : List ℕ) → length a + length b ≡ 0 → y ≡ chain f y (dataBlocks (a ++ b))
+  unfolding dataBlocks
+  data-none y a b none = rw (length-append a b, eq-eqb (length a + length b) 0 none)
+
+  -- the length, then a, then b, and zeros after them
+  pub data-parts : ((x : List ℕ) → length (f x) ≡ 16) → (y a b : List ℕ) → length y ≡ 16 → (length a + length b ≡ 0 → ⊥)
+      → close f ((2 + (length a + length b)) % 16) (absorb f ((2 + length a) % 16) (absorb f 2 (absorb f 0 y (be 2 (length a + length b))) a) b)
+      ≡ chain f y (dataBlocks (a ++ b))
+  unfolding dataBlocks
+  data-parts sizes y a b size some =
+      rw (length-append a b, ne-eqb (length a + length b) 0 some)
+      (ap₂ (close f) places (sym (absorb-append f 0 y (be 2 (length a + length b)) (a ++ b) (lit< tt) ∙ absorb-append f 2 (absorb f 0 y (be 2 (length a + length b))) a b (lit< tt)))
+      ∙ close-chain f y (be 2 (length a + length b) ++ (a ++ b)) size sizes)
+    where
+      places : (2 + (length a + length b)) % 16 ≡ length (be 2 (length a + length b) ++ (a ++ b)) % 16
+      places = omega (arith, length-append a b)
+
+  -- the same, step by step
+  pub data-steps : ((x : List ℕ) → length (f x) ≡ 16) → (y a b size x u v r : List ℕ) → length y ≡ 16 → (length a + length b ≡ 0 → ⊥)
+      → size ≡ be 2 (length a + length b) → x ≡ absorb f 0 y size → u ≡ absorb f 2 x a → v ≡ absorb f ((2 + length a) % 16) u b
+      → r ≡ close f ((2 + (length a + length b)) % 16) v → r ≡ chain f y (dataBlocks (a ++ b))
+  data-steps sizes y a b size x u v r h some es ex eu ev er = rw (er, ev, eu, ex, es) (data-parts sizes y a b h some)
+
+-- ---- the text, as the counter routine writes it
+
+pub counter-text : (f : List ℕ → List ℕ) (iv s base out : List ℕ) (x : ℕ × List ℕ) → length iv ≡ 12 → length s ≤ textMax → base ≡ front iv ++ be 3 0
+    → counterAnswer f 3 (frontOf false base) 1 s out ≡ x → (0, over (text f iv s) out) ≡ x
+unfolding text
+counter-text f iv s base out x size short eb e =
+    sym
+    (ap (λ (l : List ℕ). counterAnswer f 3 l 1 s out) (ap (frontOf false) eb ∙ front-base iv size)
+    ∙ counterAnswer-fits f 3 (front iv) 1 s out (counterFits-three (length s) short))
+    ∙ e
+
+-- ---- the tag
+
+-- what the sum of two strings is equal to
+same-moved : (a b k : List ℕ) → length a ≤ length k → length b ≤ length k → same (xors a k) b ≡ same (xors b k) a
+same-moved a b k ha hb = go (same (xors a k) b) refl
+  where
+    go : (r : Bool) → same (xors a k) b ≡ r → r ≡ same (xors b k) a
+    go true e = sym (rw (← same-equal (xors a k) b e, xors-cancel a k ha) (same-refl a))
+    go false e = sym (same-differ (xors b k) a (λ q. false≢true (sym e ∙ ap (λ (l : List ℕ). same l b) (ap (λ (l : List ℕ). xors l k) (sym q) ∙ xors-cancel b k hb) ∙ same-refl b)))
+
+module _ (f : List ℕ → List ℕ) (size : (x : List ℕ) → length (f x) ≡ 16) (iv a : List ℕ) where
+  pub length-text : (s : List ℕ) → length (text f iv s) ≡ length s
+  unfolding text
+  length-text s = length-ctr f size 3 (front iv) 1 s
+
+  length-mac : (p : List ℕ) → length (mac f iv a p) ≡ 16
+  unfolding mac
+  length-mac p = length-chain f size (f (firstBlock iv a (length p))) (dataBlocks a ++ cut p) (size (firstBlock iv a (length p)))
+
+  pub length-tagOf : (p : List ℕ) → length (tagOf f iv a p) ≡ 16
+  unfolding tagOf
+  length-tagOf p = length-xors (mac f iv a p) (firstPad f iv) (omega (arith, length-mac p, size (counterBlock 3 (front iv) 0))) ∙ length-mac p
+
+  -- the tag with S0 is the chain's last state exactly where the tag is the state with S0
+  pub tagRight-same : (c t : List ℕ) → length t ≡ 16 → tagRight f iv a c t ≡ same (tagOf f iv a (text f iv c)) t
+  unfolding tagOf tagRight
+  tagRight-same c t h =
+      same-moved t (mac f iv a (text f iv c)) (firstPad f iv) (omega (arith, size (counterBlock 3 (front iv) 0)))
+      (omega (arith, length-mac (text f iv c), size (counterBlock 3 (front iv) 0)))
+
+  -- the state z before the plaintext, m after it, and the pad added
+  pub tag-steps : (p z m pad r : List ℕ) → z ≡ chain f (f (firstBlock iv a (length p))) (dataBlocks a) → m ≡ chain f z (cut p)
+      → pad ≡ firstPad f iv → r ≡ xors m pad → r ≡ tagOf f iv a p
+  unfolding mac tagOf
+  tag-steps p z m pad r ez em ep er =
+      er ∙ ap₂ xors (em ∙ ap (λ (y : List ℕ). chain f y (cut p)) ez ∙ sym (chain-append f (f (firstBlock iv a (length p))) (dataBlocks a) (cut p))) ep

@@ -1,0 +1,44 @@
+-- GCM's two directions fit each other, and so it is lawful.
+-- Assumes nothing.
+use mathlib.Core.Path.{_≡_, refl, sym, ap, _∙_}
+use mathlib.Core.Bool.{true}
+use mathlib.Core.Logic.{_↔_}
+use mathlib.Core.List.{List}
+use Prim.Native.Nat.{ℕ}
+use Rattle.aes.specs.Cipher.{cipher}
+use Rattle.aes.specs.KeyExpansion.{schedule}
+use Rattle.aes.proofs.Laws.{cipher-length}
+use Rattle.modes.specs.Gcm.{text, tagOf, tagRight, gcm}
+use Rattle.modes.specs.Laws.{Lawful}
+use Rattle.modes.proofs.Tagged.{length-text, length-tagOf, text-text}
+use Rattle.modes.proofs.BothWays.{Fitting, same-exactly, fitting-lawful}
+
+opened : (key iv s : List ℕ) → text (cipher (schedule key)) iv (text (cipher (schedule key)) iv s) ≡ s
+opened key iv s = text-text (cipher (schedule key)) (cipher-length (schedule key)) iv s
+
+-- the tag is of the ciphertext, which the plaintext gives back
+right-exactly : (key iv a c t : List ℕ) → (gcm .authentic key iv a c t ≡ true) ↔ (gcm .tag key iv a (gcm .plaintext key iv c) ≡ t)
+unfolding tagRight
+right-exactly key iv a c t = (λ h. again ∙ sym (exactly .0 h), λ h. exactly .1 (sym (sym again ∙ h)))
+  where
+    tagged : List ℕ → List ℕ
+    tagged c = tagOf (cipher (schedule key)) iv a c
+
+    again : gcm .tag key iv a (gcm .plaintext key iv c) ≡ tagged c
+    again = ap tagged (opened key iv c)
+
+    exactly : (gcm .authentic key iv a c t ≡ true) ↔ (t ≡ tagged c)
+    exactly = same-exactly (gcm .authentic key iv a c t) t (tagged c) refl
+
+pub gcm-fitting : Fitting gcm
+gcm-fitting =
+    record {
+      ciphertext-length = λ key iv p. length-text (cipher (schedule key)) (cipher-length (schedule key)) iv p;
+      tag-length = λ key iv a p. length-tagOf (cipher (schedule key)) (cipher-length (schedule key)) iv a (text (cipher (schedule key)) iv p);
+      opens = opened;
+      seals = opened;
+      authentic-exactly = λ key iv a c t size. right-exactly key iv a c t;
+    }
+
+pub gcm-lawful : Lawful gcm
+gcm-lawful = fitting-lawful gcm gcm-fitting

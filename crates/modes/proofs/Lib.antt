@@ -1,0 +1,14 @@
+mod Written
+pub mod Limits
+pub mod Stream
+pub mod Chained
+pub mod Formatted
+pub mod Opened
+pub mod Sealed
+pub mod Numbers
+pub mod BothWays
+pub mod CcmLaws
+pub mod Counted
+pub mod Tagged
+pub mod GcmLaws
+pub mod Laws

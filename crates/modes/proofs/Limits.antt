@@ -1,0 +1,82 @@
+-- The counter block as the code writes it, and the tests of lengths and of the counter field.
+-- Assumes nothing.
+use mathlib.Core.Path.{_≡_, refl, sym, ap, _∙_}
+use mathlib.Core.Bool.{Bool, true, false, not}
+use mathlib.Core.List.{List, [], _∷_, _++_}
+use Prim.Native.Nat.{ℕ, _+_, _-_, _/_, _%_, _^_, _≤_, _<_}
+use native.Mathlib.Nat.{div-one}
+use native.Mathlib.Omega.{arith}
+use borrow.Author.Tests.{ltb-true, ltb-false, leb-true, leb-false, lt-ltb, le-ltb, le-leb}
+use lib.Dec.{ltb, leb}
+use lib.ListN.{length, getD, take}
+use Rattle.octets.specs.Values.{values}
+use Rattle.octets.specs.Blocks.{blocks}
+use Rattle.octets.specs.Lent.{over}
+use Rattle.octets.proofs.Values.{values-part}
+use Rattle.modes.specs.Counter.{counterBlock, ctr, counterFits, counterNumber, counterAnswer, width, frontOf}
+use Rattle.modes.specs.Calls.{dataMax, textMax, tooLong}
+
+-- ---- the counter block, byte by byte
+
+module _ (base : List ℕ) (i : ℕ) (size : length base ≡ 16) where
+  -- the front's n bytes, before the field's
+  front-bytes : (n : ℕ) (field : List ℕ) → n ≤ 16 → values (λ k. getD base k 0) 0 n ++ field ≡ take n base ++ field
+  front-bytes n field h = ap (λ (l : List ℕ). l ++ field) (values-part base 0 0 n (omega arith))
+
+  pub wide-block : values (λ k. getD base k 0) 0 12 ++ i / 16777216 % 256 ∷ i / 65536 % 256 ∷ i / 256 % 256 ∷ i % 256 ∷ []
+      ≡ counterBlock (width true) (frontOf true base) i
+  wide-block = rw (div-one i) (front-bytes 12 _ (omega arith))
+
+  pub narrow-block : values (λ k. getD base k 0) 0 13 ++ i / 65536 % 256 ∷ i / 256 % 256 ∷ i % 256 ∷ []
+      ≡ counterBlock (width false) (frontOf false base) i
+  narrow-block = rw (div-one i) (front-bytes 13 _ (omega arith))
+
+-- ---- tests
+
+-- a sum's limit, tested without the sum
+pub ltb-less : (o t m : ℕ) → t ≤ o → ltb (o - t) m ≡ ltb o (t + m)
+ltb-less o t m h = go (ltb (o - t) m) refl
+  where
+    go : (b : Bool) → ltb (o - t) m ≡ b → b ≡ ltb o (t + m)
+    go true e = sym (lt-ltb o (t + m) (omega (arith, ltb-true (o - t) m e)))
+    go false e = sym (le-ltb o (t + m) (omega (arith, ltb-false (o - t) m e)))
+
+-- a maximum is passed by the associated data, or else by the text
+module _ (a b s : List ℕ) where
+  pub tooLong-data : dataMax < length a + length b → tooLong a b s ≡ true
+  tooLong-data h = rw (lt-ltb dataMax (length a + length b) h)
+
+  pub tooLong-text : length a + length b ≤ dataMax → tooLong a b s ≡ ltb textMax (length s)
+  tooLong-text h = rw (le-ltb dataMax (length a + length b) h)
+
+ltb-leb : (a b : ℕ) → ltb a b ≡ not (leb b a)
+ltb-leb a b = go (leb b a) refl
+  where
+    go : (t : Bool) → leb b a ≡ t → ltb a b ≡ not t
+    go true e = le-ltb a b (leb-true b a e)
+    go false e = lt-ltb a b (leb-false b a e)
+
+-- the counters run over exactly where the last is past the limit
+pub counterFits-past : (w i n : ℕ) → ltb (256 ^ w) (i + (n / 16 + (n % 16 + 15) / 16)) ≡ not (counterFits w i n)
+counterFits-past w i n = ap (ltb (256 ^ w)) last ∙ ltb-leb (256 ^ w) (i + blocks n)
+  where
+    last : i + (n / 16 + (n % 16 + 15) / 16) ≡ i + blocks n
+    last = omega arith
+
+-- ---- counterFits: what fits, and the answer then
+
+-- counter 1 and 3 bytes in CCM, 2 and 4 in GCM: every text that document 01 permits
+pub counterFits-three : (n : ℕ) → n ≤ textMax → counterFits 3 1 n ≡ true
+counterFits-three n h = le-leb (1 + blocks n) (256 ^ 3) (omega arith)
+
+pub counterFits-four : (n : ℕ) → n ≤ textMax → counterFits 4 2 n ≡ true
+counterFits-four n h = le-leb (2 + blocks n) (256 ^ 4) (omega arith)
+
+module _ (f : List ℕ → List ℕ) (w : ℕ) (front : List ℕ) (i : ℕ) (s out : List ℕ) where
+  pub counterAnswer-fits : counterFits w i (length s) ≡ true → counterAnswer f w front i s out ≡ (0, over (ctr f w front i s) out)
+  unfolding counterAnswer counterNumber
+  counterAnswer-fits e = rw e
+
+  pub counterAnswer-past : counterFits w i (length s) ≡ false → counterAnswer f w front i s out ≡ (11, out)
+  unfolding counterAnswer counterNumber
+  counterAnswer-past e = rw e

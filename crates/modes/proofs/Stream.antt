@@ -1,0 +1,203 @@
+-- Counter mode, for any f whose every value has 16 bytes: its length, block by block, twice, and as the code writes it into an output.
+-- Assumes nothing.
+use mathlib.Core.Path.{_≡_, refl, sym, ap, ap₂, _∙_}
+use mathlib.Core.List.{List, [], _∷_, _++_, append-assoc, append-nil}
+use Prim.Native.Nat.{ℕ, zero, suc, _+_, _-_, _*_, _≤_, _<_}
+use native.Mathlib.Nat.{add-zero}
+use native.Mathlib.Numerals.{add-one}
+use native.Mathlib.Omega.{arith}
+use lib.ListN.{length, take, drop, length-append, length-drop, take-append-drop, drop-of-length-le}
+use lib.Seq.{length-take-le, take-all, take-append-le, drop-append-le}
+use Rattle.octets.specs.Values.{values}
+use Rattle.octets.specs.Xor.{xors}
+use Rattle.octets.specs.Blocks.{blocks}
+use Rattle.octets.specs.Lent.{over}
+use Rattle.octets.proofs.Values.{length-values}
+use Rattle.octets.proofs.Xor.{length-xors, xors-cancel, xors-append}
+use Rattle.octets.proofs.Lent.{over-fits}
+use Rattle.modes.specs.Counter.{stream, counterBlock, ctr}
+use Rattle.modes.specs.Laws.{CounterTwice}
+use Rattle.modes.proofs.Written.{drop-part, part-length, pair-written, back-take, back-drop, back-length}
+
+pub ctr-nil : (f : List ℕ → List ℕ) (w : ℕ) (front : List ℕ) (i : ℕ) → ctr f w front i [] ≡ []
+unfolding ctr
+ctr-nil f w front i = refl
+
+module _ (f : List ℕ → List ℕ) (size : (x : List ℕ) → length (f x) ≡ 16) where
+  pub length-stream : (bs : List (List ℕ)) → length (stream f bs) ≡ 16 * length bs
+  length-stream [] = refl
+  length-stream (b ∷ bs) = length-append (f b) (stream f bs) ∙ omega (arith, size b, length-stream bs)
+
+  module _ (w : ℕ) (front : List ℕ) where
+    enough : (i : ℕ) (s : List ℕ) → length s ≤ length (stream f (values (counterBlock w front) i (blocks (length s))))
+    enough i s =
+        omega (arith, length-stream (values (counterBlock w front) i (blocks (length s))), length-values (counterBlock w front) i (blocks (length s)))
+
+    pub length-ctr : (i : ℕ) (s : List ℕ) → length (ctr f w front i s) ≡ length s
+    unfolding ctr
+    length-ctr i s = length-xors s (stream f (values (counterBlock w front) i (blocks (length s)))) (enough i s)
+
+    -- a block or less
+    pub ctr-last : (i : ℕ) (s : List ℕ) → length s ≤ 16 → ctr f w front i s ≡ xors s (f (counterBlock w front i))
+    unfolding ctr
+    ctr-last i [] h = refl
+    ctr-last i (x ∷ s) h =
+        ap (λ (m : ℕ). xors (x ∷ s) (stream f (values (counterBlock w front) i m))) one
+        ∙ ap (xors (x ∷ s)) (append-nil (f (counterBlock w front i)))
+      where
+        one : blocks (length (x ∷ s)) ≡ 1
+        one = omega arith
+
+    -- a block, and the rest from the next counter on
+    pub ctr-next : (i : ℕ) (s : List ℕ) → 16 ≤ length s
+        → ctr f w front i s ≡ xors (take 16 s) (f (counterBlock w front i)) ++ ctr f w front (i + 1) (drop 16 s)
+    unfolding ctr
+    ctr-next i s h =
+        ap₂ (λ (l : List ℕ) (m : ℕ). xors l (stream f (values (counterBlock w front) i m))) (sym (take-append-drop 16 s)) more
+        ∙ xors-append (take 16 s) (drop 16 s) (f (counterBlock w front i)) (after (suc i)) (length-take-le 16 s h ∙ sym (size (counterBlock w front i)))
+        ∙ ap (λ (k : ℕ). xors (take 16 s) (f (counterBlock w front i)) ++ xors (drop 16 s) (after k)) (sym (add-one i))
+      where
+        after : ℕ → List ℕ
+        after k = stream f (values (counterBlock w front) k (blocks (length (drop 16 s))))
+
+        more : blocks (length s) ≡ suc (blocks (length (drop 16 s)))
+        more = omega (arith, length-drop 16 s)
+
+    -- m blocks, or all that there is, and what comes after them
+    pub ctr-append : (m i : ℕ) (a b : List ℕ) → (0 < length b → length a ≡ 16 * m)
+        → ctr f w front i (a ++ b) ≡ ctr f w front i a ++ ctr f w front (i + m) b
+    ctr-append m i a [] h =
+        ap (ctr f w front i) (append-nil a)
+        ∙ sym (ap (λ (l : List ℕ). ctr f w front i a ++ l) (ctr-nil f w front (i + m)) ∙ append-nil (ctr f w front i a))
+    ctr-append m i a (x ∷ b) h = go m i a (h (omega arith))
+      where
+        go : (m i : ℕ) (a : List ℕ) → length a ≡ 16 * m → ctr f w front i (a ++ x ∷ b) ≡ ctr f w front i a ++ ctr f w front (i + m) (x ∷ b)
+        go zero i [] e = ap₂ (λ (l : List ℕ) (k : ℕ). l ++ ctr f w front k (x ∷ b)) (sym (ctr-nil f w front i)) (sym (add-zero i))
+        go zero i (y ∷ a) e = absurd (omega arith)
+        go (suc m) i a e =
+            ctr-next i (a ++ x ∷ b) (omega (arith, length-append a (x ∷ b)))
+            ∙ ap₂ (λ (s t : List ℕ). xors s (f (counterBlock w front i)) ++ t) (take-append-le 16 a (x ∷ b) (omega arith))
+            (ap (ctr f w front (i + 1)) (drop-append-le 16 a (x ∷ b) (omega arith))
+            ∙ go m (i + 1) (drop 16 a) (omega (arith, length-drop 16 a))
+            ∙ ap (λ (k : ℕ). ctr f w front (i + 1) (drop 16 a) ++ ctr f w front k (x ∷ b)) later)
+            ∙ sym (append-assoc (xors (take 16 a) (f (counterBlock w front i))) (ctr f w front (i + 1) (drop 16 a)) (ctr f w front (i + suc m) (x ∷ b)))
+            ∙ sym (ap (λ (l : List ℕ). l ++ ctr f w front (i + suc m) (x ∷ b)) (ctr-next i a (omega arith)))
+          where
+            later : i + 1 + m ≡ i + suc m
+            later = omega arith
+
+    -- two blocks, as the code writes them
+    pub ctr-pair : (i : ℕ) (s out ys zs : List ℕ) → length s ≡ 32 → length out ≡ 32
+        → ys ≡ xors (take 16 s) (f (counterBlock w front i)) → zs ≡ xors (take 16 (drop 16 s)) (f (counterBlock w front (i + 1)))
+        → take 16 (ys ++ drop 16 out) ++ (zs ++ drop 16 (drop 16 (ys ++ drop 16 out))) ≡ ctr f w front i s
+    ctr-pair i s out ys zs long room first second =
+        pair-written out ys zs room sized
+        ∙ ap₂ (λ (l r : List ℕ). l ++ r) first
+        (second ∙ ap (λ (l : List ℕ). xors l (f (counterBlock w front (i + 1)))) (take-all 16 (drop 16 s) rest) ∙ sym (ctr-last (i + 1) (drop 16 s) rest))
+        ∙ sym (ctr-next i s (omega arith))
+      where
+        rest : length (drop 16 s) ≤ 16
+        rest = omega (arith, length-drop 16 s)
+
+        front-size : length (take 16 s) ≡ 16
+        front-size = length-take-le 16 s (omega arith)
+
+        sized : length ys ≡ 16
+        sized =
+            ap length first
+            ∙ length-xors (take 16 s) (f (counterBlock w front i)) (omega (arith, front-size, size (counterBlock w front i)))
+            ∙ front-size
+
+    -- twice gives the string back
+    pub ctr-ctr : (i : ℕ) (s : List ℕ) → ctr f w front i (ctr f w front i s) ≡ s
+    unfolding ctr
+    ctr-ctr i s =
+        ap (λ (n : ℕ). xors (ctr f w front i s) (stream f (values (counterBlock w front) i (blocks n)))) (length-ctr i s)
+        ∙ xors-cancel s (stream f (values (counterBlock w front) i (blocks (length s)))) (enough i s)
+
+pub counter-twice : CounterTwice
+counter-twice f size w front i s = ctr-ctr f size w front i s
+
+-- ---- the output while it is written: the bytes before place `at` are there, and counter k comes next
+
+pub record Partly (f : List ℕ → List ℕ) (w : ℕ) (front : List ℕ) (i : ℕ) (s before : List ℕ) (at k : ℕ) (out : List ℕ) : Type 0 where
+  pub inside : at ≤ length s
+  pub room : length out ≡ length before
+  pub counted : k ≤ i + at
+  pub written : take at out ++ ctr f w front k (drop at s) ≡ ctr f w front i s
+  pub kept : drop at out ≡ drop at before
+
+module _ {f : List ℕ → List ℕ} {w : ℕ} {front : List ℕ} {i : ℕ} {s before : List ℕ} where
+  pub partly-start : Partly f w front i s before 0 i before
+  partly-start = record { inside = omega arith; room = refl; counted = omega arith; written = refl; kept = refl }
+
+  -- an output that is partly written is one to write the rest into
+  pub partly-again : {at k : ℕ} {out : List ℕ} → Partly f w front i s before at k out → Partly f w front i s out at k out
+  partly-again p = record { inside = p .inside; room = refl; counted = p .counted; written = p .written; kept = refl }
+
+  module _ {at k : ℕ} {out : List ℕ} (p : Partly f w front i s before at k out) (fits : length s ≤ length before) (size : (x : List ℕ) → length (f x) ≡ 16) where
+    -- m blocks more, or all that there is, up to place e
+    pub partly-turn : (m e : ℕ) {ys : List ℕ} → at + m ≤ e → e ≤ length s → (e < length s → e ≡ at + 16 * m)
+        → ys ≡ ctr f w front k (take (e - at) (drop at s))
+        → Partly f w front i s before e (k + m) (take at out ++ (ys ++ drop (e - at) (drop at out)))
+    partly-turn m e {ys} more le whole is =
+        record {
+          inside = le;
+          room = back-length out ys at e (omega arith) (omega (arith, p .room)) sized ∙ p .room;
+          counted = omega (arith, p .counted);
+          written =
+              ap (λ (l : List ℕ). l ++ ctr f w front (k + m) (drop e s)) (back-take out ys at e (omega arith) (omega (arith, p .room)) sized)
+              ∙ append-assoc (take at out) ys (ctr f w front (k + m) (drop e s))
+              ∙ ap (λ (l : List ℕ). take at out ++ l) step
+              ∙ p .written;
+          kept =
+              back-drop out ys at e (omega arith) (omega (arith, p .room)) sized
+              ∙ sym (drop-part out at e (omega arith))
+              ∙ ap (drop (e - at)) (p .kept)
+              ∙ drop-part before at e (omega arith);
+        }
+      where
+        part : length (take (e - at) (drop at s)) ≡ e - at
+        part = part-length s at e le
+
+        sized : length ys ≡ e - at
+        sized = ap length is ∙ length-ctr f size w front k (take (e - at) (drop at s)) ∙ part
+
+        rest : drop (e - at) (drop at s) ≡ drop e s
+        rest = drop-part s at e (omega arith)
+
+        blocks-more : 0 < length (drop (e - at) (drop at s)) → e - at ≡ 16 * m
+        blocks-more h = omega (arith, whole (omega (arith, ap length rest, length-drop e s)))
+
+        step : ys ++ ctr f w front (k + m) (drop e s) ≡ ctr f w front k (drop at s)
+        step =
+            ap₂ (λ (l r : List ℕ). l ++ ctr f w front (k + m) r) is (sym rest)
+            ∙ sym (ctr-append f size w front m k (take (e - at) (drop at s)) (drop (e - at) (drop at s)) (λ h. part ∙ blocks-more h))
+            ∙ ap (ctr f w front k) (take-append-drop (e - at) (drop at s))
+
+    long : length (ctr f w front i s) ≡ length s
+    long = length-ctr f size w front i s
+
+    -- writing all over it is writing all over what was there before
+    pub partly-over : over (ctr f w front i s) out ≡ over (ctr f w front i s) before
+    partly-over =
+        over-fits (ctr f w front i s) out (omega (arith, p .room, long))
+        ∙ ap (λ (l : List ℕ). ctr f w front i s ++ l)
+        (sym (drop-part out at (length (ctr f w front i s)) (omega (arith, p .inside, long)))
+        ∙ ap (drop (length (ctr f w front i s) - at)) (p .kept)
+        ∙ drop-part before at (length (ctr f w front i s)) (omega (arith, p .inside, long)))
+        ∙ sym (over-fits (ctr f w front i s) before (omega (arith, long)))
+
+    -- after the last part
+    pub partly-end : length s ≤ at → out ≡ over (ctr f w front i s) before
+    partly-end ge =
+        sym (take-append-drop at out)
+        ∙ ap₂ (λ (l r : List ℕ). l ++ r) (sym nothing ∙ p .written) (p .kept ∙ ap (λ (n : ℕ). drop n before) end)
+        ∙ sym (over-fits (ctr f w front i s) before (omega (arith, long)))
+      where
+        nothing : take at out ++ ctr f w front k (drop at s) ≡ take at out
+        nothing =
+            ap (λ (l : List ℕ). take at out ++ l) (ap (ctr f w front k) (drop-of-length-le s {i = at} ge) ∙ ctr-nil f w front k) ∙ append-nil (take at out)
+
+        end : at ≡ length (ctr f w front i s)
+        end = omega (arith, p .inside, long)

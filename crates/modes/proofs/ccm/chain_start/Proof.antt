@@ -1,0 +1,27 @@
+-- `modes::ccm::chain_start` meets its contract: the cipher of the first block, and then the data.
+-- Assumes nothing.
+use mathlib.Core.Path.{ap, _∙_}
+use mathlib.Core.List.{List, _++_}
+use Prim.Native.Nat.{ℕ}
+use borrow.Author.Needs.{needs}
+use Rattle.octets.specs.Blocks.{chain}
+use Rattle.aes.specs.Cipher.{cipher}
+use Rattle.modes.specs.Ccm.{dataBlocks}
+use Rattle.modes.proofs.Formatted.{firstBlock-parts}
+use Rattle.modes.proofs.ccm.chain_start.Statement.{statement}
+use Rattle.modes.proofs.ccm.chain_start.Tie as tie
+
+returns : tie.Need-returns
+returns c =
+    let begun = c .before in
+    let start = begun .before .before .before .before in
+    let a = start .args in
+    c .chain-data .ensures
+    ∙ ap (λ (y : List ℕ). chain (cipher (a .ks)) y (dataBlocks (a .a .now ++ a .b .now)))
+    (begun .encrypt .ensures .by-cipher (start .pre .0)
+    ∙ ap (cipher (a .ks)) (begun .before .first-block .ensures ∙ firstBlock-parts (a .iv) (a .a .now) (a .b .now) (a .n)))
+
+pub chain-start-spec : {M : Type 1} → statement M
+chain-start-spec =
+    tie.close
+    (tie.spec (λ c. search needs) (λ c κs. search needs) (λ c κs. search needs) (λ c κs. search needs) returns)

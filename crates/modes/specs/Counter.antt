@@ -1,0 +1,41 @@
+-- Counter mode, which CCM and GCM share. A counter block is a front and a counter field of w bytes: w is 3 in CCM (SP 800-38C, appendix A.3) and 4 in GCM (SP 800-38D, section 7.1).
+-- Assumes nothing.
+use Prim.Native.Nat.{ℕ, _+_, _-_, _^_}
+use mathlib.Core.Bool.{Bool, not}
+use mathlib.Core.List.{List, [], _∷_, _++_}
+use lib.Dec.{leb}
+use lib.ListN.{length, take}
+use Rattle.octets.specs.Values.{values}
+use Rattle.octets.specs.BigEndian.{be}
+use Rattle.octets.specs.Xor.{xors}
+use Rattle.octets.specs.Lent.{when, lowest, answer}
+use Rattle.octets.specs.Blocks.{blocks}
+
+-- what the cipher f makes of counter blocks, end to end
+abbrev pub stream : (List ℕ → List ℕ) → List (List ℕ) → List ℕ
+stream f [] = []
+stream f (b ∷ bs) = f b ++ stream f bs
+
+abbrev pub counterBlock : ℕ → List ℕ → ℕ → List ℕ
+counterBlock w front i = front ++ be w i
+
+-- the string s added to the stream from counter i on
+unfoldable pub ctr : (List ℕ → List ℕ) → ℕ → List ℕ → ℕ → List ℕ → List ℕ
+ctr f w front i s = xors s (stream f (values (counterBlock w front) i (blocks (length s))))
+
+-- document 01: 11 where the counter field would run over
+abbrev pub counterFits : ℕ → ℕ → ℕ → Bool
+counterFits w i n = leb (i + blocks n) (256 ^ w)
+
+unfoldable pub counterNumber : ℕ → ℕ → ℕ → ℕ
+counterNumber w i n = lowest ((11, not (counterFits w i n)) ∷ [])
+
+unfoldable pub counterAnswer : (List ℕ → List ℕ) → ℕ → List ℕ → ℕ → List ℕ → List ℕ → ℕ × List ℕ
+counterAnswer f w front i s out = answer (counterNumber w i (length s)) (ctr f w front i s) out
+
+-- the code's counter blocks: 16 bytes whose last w are the field, w being 4 where it is wide and else 3
+abbrev pub width : Bool → ℕ
+width wide = when wide 4 3
+
+abbrev pub frontOf : Bool → List ℕ → List ℕ
+frontOf wide base = take (16 - width wide) base

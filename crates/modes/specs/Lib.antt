@@ -1,0 +1,6 @@
+pub mod Mode
+pub mod Counter
+pub mod Ccm
+pub mod Gcm
+pub mod Calls
+pub mod Laws

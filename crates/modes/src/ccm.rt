@@ -1,0 +1,317 @@
+// CCM: SP 800-38C with a 12-byte nonce, a 3-byte length field and a 16-byte tag.
+use crate::chain::absorb;
+use crate::chain::chain_along;
+use crate::chain::close;
+use crate::counter::counter;
+use crate::counter::counter_block;
+use crate::lengths::no_room;
+use crate::lengths::too_long;
+use crate::lengths::wrong_key_or_iv;
+use crate::lengths::wrong_tag;
+use crate::parts::block_at;
+use crate::parts::iv_of;
+use crate::parts::key_of;
+use aes::expand_key;
+use aes_fast::round_tables;
+use octets::big_endian::bytes16;
+use octets::strings::equal;
+use octets::strings::put;
+use octets::strings::xor_blocks;
+ghost use mathlib.Core.Path.{_≡_};
+ghost use mathlib.Core.Bool.{false, not};
+ghost use mathlib.Core.List.{[], _∷_, _++_};
+ghost use Prim.Native.Nat.{_+_, _≤_, _<_};
+ghost use lib.ListN.{length};
+ghost use Rattle.octets.specs.BigEndian.{be};
+ghost use Rattle.octets.specs.Blocks.{cut, chain};
+ghost use Rattle.octets.specs.Lent.{lowest, over, answer};
+ghost use Rattle.octets.specs.Xor.{xors};
+ghost use Rattle.aes.specs.Cipher.{cipher};
+ghost use Rattle.aes.specs.KeyExpansion.{schedule};
+ghost use Rattle.aes_fast.specs.Right.{Right};
+ghost use Rattle.modes.specs.Mode.{sealed};
+ghost use Rattle.modes.specs.Counter.{counterBlock, ctr, frontOf};
+ghost use Rattle.modes.specs.Ccm.{flags, hasData, firstBlock, dataBlocks, mac, front, firstPad, text, tagOf, tagRight, ccm};
+ghost use Rattle.modes.specs.Calls.{encryptAnswer, decryptAnswer};
+
+// The flags of the first block: 7Ah with associated data, 3Ah without.
+fn flags_of(with_data: bool) -> u8
+    ensures { λ r. ⌜ r ≡ flags with_data ⌝ }
+{
+    if with_data { 0x7a } else { 0x3a }
+}
+
+// B0: the flags, the nonce, and the length of the payload in three bytes.
+fn first_block(iv: [u8; 12], with_data: bool, n: usize) -> [u8; 16]
+    ensures { λ r. ⌜ r ≡ flags with_data ∷ (iv ++ be 3 n) ⌝ }
+{
+    [
+        flags_of(with_data),
+        iv[0],
+        iv[1],
+        iv[2],
+        iv[3],
+        iv[4],
+        iv[5],
+        iv[6],
+        iv[7],
+        iv[8],
+        iv[9],
+        iv[10],
+        iv[11],
+        (n / 65536 % 256) as u8,
+        (n / 256 % 256) as u8,
+        (n % 256) as u8,
+    ]
+}
+
+// The counter blocks' front, with a field of zeros.
+fn base_of(iv: [u8; 12]) -> [u8; 16]
+    ensures { λ r. ⌜ r ≡ front iv ++ be 3 0 ⌝ }
+{
+    [
+        2,
+        iv[0],
+        iv[1],
+        iv[2],
+        iv[3],
+        iv[4],
+        iv[5],
+        iv[6],
+        iv[7],
+        iv[8],
+        iv[9],
+        iv[10],
+        iv[11],
+        0,
+        0,
+        0,
+    ]
+}
+
+// S0, which is added to the tag.
+fn first_pad(t: &[[u32; 256]; 4], ks: [[[u8; 4]; 4]; 15], iv: [u8; 12]) -> [u8; 16]
+    requires { ⌜ Right (now t) ⌝ }
+    ensures { λ r. ⌜ r ≡ firstPad (cipher ks) iv ⌝ }
+{
+    aes_fast::encrypt(t, ks, counter_block(base_of(iv), false, 0))
+}
+
+// The chain after the associated data, which is a and then b.
+fn chain_data(
+    t: &[[u32; 256]; 4],
+    ks: [[[u8; 4]; 4]; 15],
+    y: [u8; 16],
+    a: &[u8],
+    b: &[u8],
+) -> [u8; 16]
+    requires { ⌜ Right (now t) × (length (now a) + length (now b) < 65536) ⌝ }
+    ensures { λ r. ⌜ r ≡ chain (cipher ks) y (dataBlocks (now (a .entry) ++ now (b .entry))) ⌝ }
+{
+    let n = a.len() + b.len();
+    if n == 0 {
+        return y;
+    }
+    let size = bytes16(n);
+    let x = absorb(t, ks, 0, y, &size);
+    let u = absorb(t, ks, 2, x, a);
+    let k = (2 + a.len()) % 16;
+    let v = absorb(t, ks, k, u, b);
+    close(t, ks, (2 + n) % 16, v)
+}
+
+// The chain up to the payload.
+fn chain_start(
+    t: &[[u32; 256]; 4],
+    ks: [[[u8; 4]; 4]; 15],
+    iv: [u8; 12],
+    a: &[u8],
+    b: &[u8],
+    n: usize,
+) -> [u8; 16]
+    requires { ⌜ Right (now t) × (length (now a) + length (now b) < 65536) ⌝ }
+    ensures { λ r. ⌜ r ≡ chain (cipher ks) (cipher ks (firstBlock iv (now (a .entry) ++ now (b .entry)) n)) (dataBlocks (now (a .entry) ++ now (b .entry))) ⌝ }
+{
+    let with_data = a.len() + b.len() != 0;
+    let first = aes_fast::encrypt(t, ks, first_block(iv, with_data, n));
+    chain_data(t, ks, first, a, b)
+}
+
+// The tag of a plaintext.
+fn tag_of(
+    t: &[[u32; 256]; 4],
+    ks: [[[u8; 4]; 4]; 15],
+    iv: [u8; 12],
+    a: &[u8],
+    b: &[u8],
+    p: &[u8],
+) -> [u8; 16]
+    requires { ⌜ Right (now t) × (length (now a) + length (now b) < 65536) ⌝ }
+    ensures { λ r. ⌜ r ≡ tagOf (cipher ks) iv (now (a .entry) ++ now (b .entry)) (now (p .entry)) ⌝ }
+{
+    let y = chain_along(t, ks, chain_start(t, ks, iv, a, b, p.len()), p);
+    xor_blocks(y, first_pad(t, ks, iv))
+}
+
+// The chain along the plaintext that a ciphertext gives, which is written nowhere.
+fn chain_opened(
+    t: &[[u32; 256]; 4],
+    ks: [[[u8; 4]; 4]; 15],
+    iv: [u8; 12],
+    y: [u8; 16],
+    c: &[u8],
+) -> [u8; 16]
+    requires { ⌜ Right (now t) × (length (now c) < 16777216) ⌝ }
+    ensures { λ r. ⌜ r ≡ chain (cipher ks) y (cut (text (cipher ks) iv (now (c .entry)))) ⌝ }
+{
+    let base = base_of(iv);
+    let n = c.len();
+    let mut x = y;
+    let mut at = 0;
+    let mut k = 1;
+    while 16 <= n - at {
+        let u = open_block(t, ks, base, k, x, block_at(c, at));
+        x = u;
+        at += 16;
+        k += 1;
+    }
+    open_last(t, ks, base, k, x, &c[at..])
+}
+
+// The same of one block, with counter k, and of a last part that is shorter than a block.
+fn open_block(
+    t: &[[u32; 256]; 4],
+    ks: [[[u8; 4]; 4]; 15],
+    base: [u8; 16],
+    k: usize,
+    y: [u8; 16],
+    c: [u8; 16],
+) -> [u8; 16]
+    requires { ⌜ Right (now t) ⌝ }
+    ensures { λ r. ⌜ r ≡ cipher ks (xors y (xors c (cipher ks (counterBlock 3 (frontOf false base) k)))) ⌝ }
+{
+    let pad = aes_fast::encrypt(t, ks, counter_block(base, false, k));
+    aes_fast::encrypt(t, ks, xor_blocks(y, xor_blocks(c, pad)))
+}
+
+fn open_last(
+    t: &[[u32; 256]; 4],
+    ks: [[[u8; 4]; 4]; 15],
+    base: [u8; 16],
+    k: usize,
+    y: [u8; 16],
+    c: &[u8],
+) -> [u8; 16]
+    requires { ⌜ Right (now t) × (length (now c) < 16) ⌝ }
+    ensures { λ r. ⌜ r ≡ chain (cipher ks) y (cut (ctr (cipher ks) 3 (frontOf false base) k (now (c .entry)))) ⌝ }
+{
+    if c.len() == 0 {
+        return y;
+    }
+    let pad = aes_fast::encrypt(t, ks, counter_block(base, false, k));
+    let mut x = y;
+    let mut j = 0;
+    while j < c.len() {
+        x[j] = x[j] ^ (c[j] ^ pad[j]);
+        j += 1;
+    }
+    aes_fast::encrypt(t, ks, x)
+}
+
+// Whether the tag is right. The test is lent no output: a plaintext that is not authentic has nowhere to go.
+fn authentic(
+    t: &[[u32; 256]; 4],
+    ks: [[[u8; 4]; 4]; 15],
+    iv: [u8; 12],
+    a: &[u8],
+    b: &[u8],
+    c: &[u8],
+    tag: &[u8],
+) -> bool
+    requires { ⌜ Right (now t) × (length (now a) + length (now b) < 65536) × (length (now c) < 16777216) × (length (now tag) ≡ 16) ⌝ }
+    ensures { λ r. ⌜ r ≡ tagRight (cipher ks) iv (now (a .entry) ++ now (b .entry)) (now (c .entry)) (now (tag .entry)) ⌝ }
+{
+    let y = chain_opened(t, ks, iv, chain_start(t, ks, iv, a, b, c.len()), c);
+    let right = xor_blocks(y, first_pad(t, ks, iv));
+    equal(&right, tag)
+}
+
+fn seal(key: [u8; 32], iv: [u8; 12], a: &[u8], b: &[u8], p: &[u8], out: &mut [u8])
+    requires { ⌜ (length (now a) + length (now b) ≤ 4152) × (length (now p) ≤ 1048576) × (length (now p) + 16 ≤ length (now out)) ⌝ }
+    ensures { λ _. ⌜ now (out .exit) ≡ over (sealed ccm key iv (now (a .entry) ++ now (b .entry)) (now (p .entry))) (now (out .entry)) ⌝ }
+{
+    let t = round_tables();
+    let ks = expand_key(key);
+    let tag = tag_of(&t, ks, iv, a, b, p);
+    let n = p.len();
+    counter(&t, ks, base_of(iv), false, 1, p, out);
+    put(&mut out[n..], &tag);
+}
+
+// 9, or 0 with the plaintext. The output is lent on only after the tag was found right.
+fn open(key: [u8; 32], iv: [u8; 12], a: &[u8], b: &[u8], c: &[u8], tag: &[u8], out: &mut [u8]) -> u8
+    requires { ⌜ (length (now a) + length (now b) ≤ 4152) × (length (now c) ≤ 1048576) × (length (now tag) ≡ 16) × (length (now c) ≤ length (now out)) ⌝ }
+    ensures { λ r. ⌜ answer (lowest ((9, not (tagRight (cipher (schedule key)) iv (now (a .entry) ++ now (b .entry)) (now (c .entry)) (now (tag .entry)))) ∷ [])) (text (cipher (schedule key)) iv (now (c .entry))) (now (out .entry)) ≡ (r, now (out .exit)) ⌝ }
+{
+    let t = round_tables();
+    let ks = expand_key(key);
+    if !authentic(&t, ks, iv, a, b, c, tag) {
+        return 9;
+    }
+    counter(&t, ks, base_of(iv), false, 1, c, out)
+}
+
+// Over associated data that comes in two parts.
+pub fn encrypt_parts(key: &[u8], iv: &[u8], a: &[u8], b: &[u8], plain: &[u8], out: &mut [u8]) -> u8
+    ensures { λ r. ⌜ encryptAnswer ccm (now (key .entry)) (now (iv .entry)) (now (a .entry)) (now (b .entry)) (now (plain .entry)) (now (out .entry)) ≡ (r, now (out .exit)) ⌝ }
+{
+    if wrong_key_or_iv(key, iv) {
+        return 2;
+    }
+    if too_long(a, b, plain) {
+        return 4;
+    }
+    if no_room(out, plain, 16) {
+        return 5;
+    }
+    seal(key_of(key), iv_of(iv), a, b, plain, out);
+    0
+}
+
+pub fn decrypt_parts(
+    key: &[u8],
+    iv: &[u8],
+    a: &[u8],
+    b: &[u8],
+    text: &[u8],
+    tag: &[u8],
+    out: &mut [u8],
+) -> u8
+    ensures { λ r. ⌜ decryptAnswer ccm (now (key .entry)) (now (iv .entry)) (now (a .entry)) (now (b .entry)) (now (text .entry)) (now (tag .entry)) (now (out .entry)) ≡ (r, now (out .exit)) ⌝ }
+{
+    if wrong_key_or_iv(key, iv) {
+        return 2;
+    }
+    if wrong_tag(tag) {
+        return 2;
+    }
+    if too_long(a, b, text) {
+        return 4;
+    }
+    if no_room(out, text, 0) {
+        return 5;
+    }
+    open(key_of(key), iv_of(iv), a, b, text, tag, out)
+}
+
+pub fn encrypt(key: &[u8], iv: &[u8], aad: &[u8], plain: &[u8], out: &mut [u8]) -> u8
+    ensures { λ r. ⌜ encryptAnswer ccm (now (key .entry)) (now (iv .entry)) (now (aad .entry)) [] (now (plain .entry)) (now (out .entry)) ≡ (r, now (out .exit)) ⌝ }
+{
+    encrypt_parts(key, iv, aad, &aad[..0], plain, out)
+}
+
+pub fn decrypt(key: &[u8], iv: &[u8], aad: &[u8], text: &[u8], tag: &[u8], out: &mut [u8]) -> u8
+    ensures { λ r. ⌜ decryptAnswer ccm (now (key .entry)) (now (iv .entry)) (now (aad .entry)) [] (now (text .entry)) (now (tag .entry)) (now (out .entry)) ≡ (r, now (out .exit)) ⌝ }
+{
+    decrypt_parts(key, iv, aad, &aad[..0], text, tag, out)
+}

@@ -1,0 +1,7 @@
+// CCM and GCM over AES-256 (SP 800-38C, SP 800-38D).
+pub mod ccm;
+mod chain;
+mod counter;
+pub mod gcm;
+mod lengths;
+mod parts;

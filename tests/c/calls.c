@@ -1,0 +1,103 @@
+/*
+ * The unit's answers to lines of calls, by the C interface. Each line is NAME CALL words, byte strings in hex, "-"
+ * for an empty one; the answer is NAME, the number, and the lent output after the call. An output is lent full of
+ * A5h, with as many bytes as the line's last word says.
+ */
+#include "cases.h"
+#include "spadeswirl.h"
+
+#define STRINGS 8
+
+static uint8_t *strings[STRINGS], *out;
+static size_t lengths[STRINGS], out_len;
+
+/* The strings of a line, each in memory of its own size, so that a checker of memory sees a read past its end. */
+static void take(char *word, int i)
+{
+    size_t room = strlen(word) / 2;
+    strings[i] = malloc(room ? room : 1);
+    long n = strings[i] ? unhex(word, strings[i], room) : -1;
+    if (n < 0) {
+        fprintf(stderr, "no hex: %.40s\n", word);
+        exit(2);
+    }
+    lengths[i] = (size_t)n;
+}
+
+static void show(const uint8_t *bytes, size_t n)
+{
+    if (n == 0)
+        fputs(" -", stdout);
+    else
+        putchar(' ');
+    for (size_t i = 0; i < n; i++)
+        printf("%02x", bytes[i]);
+}
+
+#define S(i) strings[i], lengths[i]
+
+static uint8_t aes256_encrypt(void) { return spadeswirl_aes256_encrypt(S(0), S(1)); }
+static uint8_t aes256_decrypt(void) { return spadeswirl_aes256_decrypt(S(0), S(1)); }
+static uint8_t ccm_encrypt(void) { return spadeswirl_ccm_encrypt(S(0), S(1), S(2), S(3), out, out_len); }
+static uint8_t ccm_decrypt(void) { return spadeswirl_ccm_decrypt(S(0), S(1), S(2), S(3), S(4), out, out_len); }
+static uint8_t gcm_encrypt(void) { return spadeswirl_gcm_encrypt(S(0), S(1), S(2), S(3), out, out_len); }
+static uint8_t gcm_decrypt(void) { return spadeswirl_gcm_decrypt(S(0), S(1), S(2), S(3), S(4), out, out_len); }
+static uint8_t wrap(void) { return spadeswirl_wrap(S(0), S(1), out, out_len); }
+static uint8_t unwrap(void) { return spadeswirl_unwrap(S(0), S(1), out, out_len); }
+
+static const struct call {
+    const char *name;
+    int strings, has_room;
+    uint8_t (*make)(void);
+} calls[] = {
+    { "aes256_encrypt", 2, 0, aes256_encrypt }, { "aes256_decrypt", 2, 0, aes256_decrypt },
+    { "ccm_encrypt", 4, 1, ccm_encrypt }, { "ccm_decrypt", 5, 1, ccm_decrypt },
+    { "gcm_encrypt", 4, 1, gcm_encrypt }, { "gcm_decrypt", 5, 1, gcm_decrypt },
+    { "wrap", 2, 1, wrap }, { "unwrap", 2, 1, unwrap },
+};
+
+static void answer(const char *name, const struct call *call, char **words)
+{
+    for (int i = 0; i < call->strings; i++)
+        take(words[i], i);
+    out_len = call->has_room ? strtoul(words[call->strings], NULL, 10) : 0;
+    out = malloc(out_len ? out_len : 1);
+    memset(out, 0xa5, out_len);
+    uint8_t number = call->make();
+    printf("%s %u", name, number);
+    if (call->has_room)
+        show(out, out_len);
+    else
+        show(strings[1], lengths[1]);
+    putchar('\n');
+    free(out);
+    for (int i = 0; i < call->strings; i++)
+        free(strings[i]);
+}
+
+int main(void)
+{
+    char *line = NULL;
+    size_t room = 0;
+    ssize_t n;
+    while ((n = getline(&line, &room, stdin)) > 0) {
+        char *words[16];
+        int count = 0;
+        const struct call *call = NULL;
+        line[strcspn(line, "\n")] = '\0';
+        for (char *w = strtok(line, " "); w && count < 16; w = strtok(NULL, " "))
+            words[count++] = w;
+        if (count == 0 || words[0][0] == '#')
+            continue;
+        for (size_t i = 0; i < sizeof calls / sizeof calls[0]; i++)
+            if (count > 1 && strcmp(words[1], calls[i].name) == 0)
+                call = &calls[i];
+        if (!call || count != 2 + call->strings + call->has_room) {
+            fprintf(stderr, "not a call: %s\n", words[0]);
+            return 2;
+        }
+        answer(words[0], call, words + 2);
+    }
+    free(line);
+    return 0;
+}

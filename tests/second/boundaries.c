@@ -1,0 +1,136 @@
+/*
+ * Lines of calls at the boundaries of document 01: each boundary length of text and of associated data, in both
+ * modes and both ways; every single-bit change of a tag, and many of ciphertexts, IVs and associated data; wrong
+ * lengths of every string; outputs of exact, longer and shorter room. Inputs come from a seed, which is printed.
+ */
+#include "ciphers.h"
+
+static const size_t texts[] = { 0, 1, 15, 16, 17, 31, 32, 33, 47, 48, 49, 63, 64, 65, 4096, 65519, 65520, 65521, 65522,
+    65523, 65524, 65525, 65526, 65527, 65528, 65529, 65530, 65531, 65532, 65533, 65534, 65535, 65536, 65537, 1048575,
+    1048576, 1048577 };
+static const size_t datas[] = { 0, 1, 2, 13, 14, 15, 16, 17, 29, 30, 31, 32, 33, 4095, 4096, 4151, 4152, 4153 };
+
+#define COUNT(a) (sizeof(a) / sizeof((a)[0]))
+
+static unsigned long long state;
+static unsigned long number;
+
+/* xorshift64: any stream of bytes serves. */
+static unsigned char byte(void)
+{
+    state ^= state << 13;
+    state ^= state >> 7;
+    state ^= state << 17;
+    return (unsigned char)(state >> 32);
+}
+
+static struct bytes some(size_t n)
+{
+    struct bytes b = { malloc(n + 1), n };
+    for (size_t i = 0; i < n; i++)
+        b.at[i] = byte();
+    return b;
+}
+
+static void call(const char *name, const struct bytes *w, int count, size_t room)
+{
+    printf("%s.%lu %s", name, ++number, name);
+    for (int i = 0; i < count; i++)
+        put_hex(w[i].at, w[i].len);
+    printf(" %zu\n", room);
+}
+
+static const char *const encrypts[] = { "gcm_encrypt", "ccm_encrypt" };
+static const char *const decrypts[] = { "gcm_decrypt", "ccm_decrypt" };
+
+/* A text of n bytes and associated data of a, sealed and opened, with more room than is wanted, just enough, and one byte less. */
+static void both_ways(int ccm, size_t n, size_t a)
+{
+    struct bytes key = some(32), iv = some(12), aad = some(a), text = some(n), sealed = some(n), tag = some(16);
+    struct bytes e[] = { key, iv, aad, text };
+    call(encrypts[ccm], e, 4, n + 16 + 3);
+    call(encrypts[ccm], e, 4, n + 15);
+    aead_encrypt(ccm, key, iv, aad, text, sealed.at, tag.at);
+    struct bytes d[] = { key, iv, aad, sealed, tag };
+    call(decrypts[ccm], d, 5, n + 3);
+    if (n > 0)
+        call(decrypts[ccm], d, 5, n - 1);
+    tag.at[0] ^= 1;
+    call(decrypts[ccm], d, 5, n);
+    free(key.at), free(iv.at), free(aad.at), free(text.at), free(sealed.at), free(tag.at);
+}
+
+/* Each single-bit change of one of the five strings, or every one of every `step`. */
+static void changed(int ccm, int which, size_t n, size_t a, size_t step)
+{
+    struct bytes d[] = { some(32), some(12), some(a), some(n), some(16) }, text = some(n);
+    aead_encrypt(ccm, d[0], d[1], d[2], text, d[3].at, d[4].at);
+    call(decrypts[ccm], d, 5, n + 2);
+    for (size_t bit = 0; bit < 8 * d[which].len; bit += step) {
+        d[which].at[bit / 8] ^= (unsigned char)(1u << bit % 8);
+        call(decrypts[ccm], d, 5, n + 2);
+        d[which].at[bit / 8] ^= (unsigned char)(1u << bit % 8);
+    }
+    for (int i = 0; i < 5; i++)
+        free(d[i].at);
+    free(text.at);
+}
+
+/* Each string of a call with each of these lengths, the others right; two wrong at once. */
+static void lengths(const char *name, const size_t *right, int count, size_t room)
+{
+    static const size_t wrong[] = { 0, 1, 8, 11, 12, 13, 15, 16, 17, 24, 31, 32, 33, 39, 40, 41, 64 };
+    for (int i = 0; i < count; i++)
+        for (int j = i; j < count; j++)
+            for (size_t k = 0; k < COUNT(wrong); k++) {
+                struct bytes w[8];
+                for (int m = 0; m < count; m++)
+                    w[m] = some(m == i || m == j ? wrong[k] : right[m]);
+                call(name, w, count, room);
+                for (int m = 0; m < count; m++)
+                    free(w[m].at);
+            }
+}
+
+static void wraps(void)
+{
+    struct bytes w[] = { some(32), some(32) }, u[] = { w[0], some(40) };
+    static const size_t rooms[] = { 0, 8, 31, 32, 33, 39, 40, 41, 64 };
+    must(key_wrap(1, w[0].at, w[1].at, u[1].at), "wrap");
+    for (size_t i = 0; i < COUNT(rooms); i++) {
+        call("wrap", w, 2, rooms[i]);
+        call("unwrap", u, 2, rooms[i]);
+    }
+    for (size_t bit = 0; bit < 320; bit++) {
+        u[1].at[bit / 8] ^= (unsigned char)(1u << bit % 8);
+        call("unwrap", u, 2, 35);
+        u[1].at[bit / 8] ^= (unsigned char)(1u << bit % 8);
+    }
+}
+
+int main(int argc, char **argv)
+{
+    state = argc > 1 ? strtoull(argv[1], NULL, 10) : 1;
+    printf("# seed %llu\n", state);
+    state = state * 2654435769u + 88172645463325252u;
+    for (int ccm = 0; ccm < 2; ccm++) {
+        for (size_t i = 0; i < COUNT(texts); i++)
+            both_ways(ccm, texts[i], i % 2 ? 20 : 0);
+        for (size_t i = 0; i < COUNT(datas); i++)
+            both_ways(ccm, 33, datas[i]);
+        changed(ccm, 4, 0, 0, 1);
+        changed(ccm, 4, 37, 21, 1);
+        changed(ccm, 3, 37, 21, 2);
+        changed(ccm, 1, 37, 21, 1);
+        changed(ccm, 2, 37, 21, 1);
+        changed(ccm, 3, 4099, 56, 331);
+        static const size_t e[] = { 32, 12, 20, 33 }, d[] = { 32, 12, 20, 33, 16 };
+        lengths(encrypts[ccm], e, 4, 60);
+        lengths(decrypts[ccm], d, 5, 40);
+    }
+    wraps();
+    static const size_t w[] = { 32, 32 }, u[] = { 32, 40 };
+    lengths("wrap", w, 2, 44);
+    lengths("unwrap", u, 2, 44);
+    return 0;
+}
