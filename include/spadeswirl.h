@@ -9,10 +9,12 @@
  * Every call takes any lengths and any bytes, ends, and answers one number:
  *
  *    0  done
- *    2  the length of a lent key, IV, tag or block is wrong
- *    4  a maximum is passed: associated data over 4,152 bytes, or text over
- *       1,048,576
+ *    1  the key table breaks its layout, or has more than 64 rows
+ *    2  the length of a lent key, IV, tag or block is wrong, or a name is empty
+ *    4  a maximum is passed: associated data over 4,152 bytes, text over
+ *       1,048,576, or a name over 32
  *    5  the output is shorter than the result
+ *    6  no row of that name
  *    8  a wrapped key is not 40 bytes
  *    9  the tag, or the start value of a wrapped key, is wrong
  *
@@ -96,6 +98,23 @@ uint8_t spadeswirl_wrap(const uint8_t *kek, size_t kek_len,
 uint8_t spadeswirl_unwrap(const uint8_t *kek, size_t kek_len,
                           const uint8_t *wrapped, size_t wrapped_len,
                           uint8_t *out, size_t out_len);
+
+/*
+ * The key table: a header of 8 bytes and rows of 72, each a name of 1 to 32
+ * bytes, a use (1 CCM, 2 GCM, 3 key-encrypting key) and a key of 32 bytes.
+ * 1 where the table breaks its layout, has more than 64 rows, or has two rows
+ * of one name; else 0.
+ */
+uint8_t spadeswirl_table_check(const uint8_t *table, size_t table_len);
+
+/*
+ * The use of the row with exactly that name, length and bytes. Numbers: 0 with
+ * the use stored; 1; 2 for an empty name; 4 for one over 32 bytes; 6 where no
+ * row has the name. After any but 0 *use is as it was. The place of a row is
+ * never answered, since other rows may move it.
+ */
+uint8_t spadeswirl_find(const uint8_t *table, size_t table_len,
+                        const uint8_t *name, size_t name_len, uint64_t *use);
 
 #ifdef __cplusplus
 }

@@ -1,15 +1,19 @@
 /*
  * The unit's answers to lines of calls, by the C interface. Each line is NAME CALL words, byte strings in hex, "-"
- * for an empty one; the answer is NAME, the number, and the lent output after the call. An output is lent full of
- * A5h, with as many bytes as the line's last word says.
+ * for an empty one; the answer is NAME, the number, and what was lent as it is after the call. An output is lent full
+ * of A5h, with as many bytes as the line's last word says; so is a number that a call stores.
  */
 #include "cases.h"
 #include "spadeswirl.h"
 
 #define STRINGS 8
 
+/* What a call shows: the output it was lent, the block it changed, the number it stored, or nothing. */
+enum shows { OUTPUT, BLOCK, STORED, NOTHING };
+
 static uint8_t *strings[STRINGS], *out;
 static size_t lengths[STRINGS], out_len;
+static uint64_t stored;
 
 /* The strings of a line, each in memory of its own size, so that a checker of memory sees a read past its end. */
 static void take(char *word, int i)
@@ -44,31 +48,38 @@ static uint8_t gcm_encrypt(void) { return spadeswirl_gcm_encrypt(S(0), S(1), S(2
 static uint8_t gcm_decrypt(void) { return spadeswirl_gcm_decrypt(S(0), S(1), S(2), S(3), S(4), out, out_len); }
 static uint8_t wrap(void) { return spadeswirl_wrap(S(0), S(1), out, out_len); }
 static uint8_t unwrap(void) { return spadeswirl_unwrap(S(0), S(1), out, out_len); }
+static uint8_t table_check(void) { return spadeswirl_table_check(S(0)); }
+static uint8_t find(void) { return spadeswirl_find(S(0), S(1), &stored); }
 
 static const struct call {
     const char *name;
-    int strings, has_room;
+    int strings;
+    enum shows shows;
     uint8_t (*make)(void);
 } calls[] = {
-    { "aes256_encrypt", 2, 0, aes256_encrypt }, { "aes256_decrypt", 2, 0, aes256_decrypt },
-    { "ccm_encrypt", 4, 1, ccm_encrypt }, { "ccm_decrypt", 5, 1, ccm_decrypt },
-    { "gcm_encrypt", 4, 1, gcm_encrypt }, { "gcm_decrypt", 5, 1, gcm_decrypt },
-    { "wrap", 2, 1, wrap }, { "unwrap", 2, 1, unwrap },
+    { "aes256_encrypt", 2, BLOCK, aes256_encrypt }, { "aes256_decrypt", 2, BLOCK, aes256_decrypt },
+    { "ccm_encrypt", 4, OUTPUT, ccm_encrypt }, { "ccm_decrypt", 5, OUTPUT, ccm_decrypt },
+    { "gcm_encrypt", 4, OUTPUT, gcm_encrypt }, { "gcm_decrypt", 5, OUTPUT, gcm_decrypt },
+    { "wrap", 2, OUTPUT, wrap }, { "unwrap", 2, OUTPUT, unwrap },
+    { "table_check", 1, NOTHING, table_check }, { "find", 2, STORED, find },
 };
 
 static void answer(const char *name, const struct call *call, char **words)
 {
     for (int i = 0; i < call->strings; i++)
         take(words[i], i);
-    out_len = call->has_room ? strtoul(words[call->strings], NULL, 10) : 0;
+    out_len = call->shows == OUTPUT ? strtoul(words[call->strings], NULL, 10) : 0;
+    stored = 0xa5a5a5a5a5a5a5a5;
     out = malloc(out_len ? out_len : 1);
     memset(out, 0xa5, out_len);
     uint8_t number = call->make();
     printf("%s %u", name, number);
-    if (call->has_room)
+    if (call->shows == OUTPUT)
         show(out, out_len);
-    else
+    else if (call->shows == BLOCK)
         show(strings[1], lengths[1]);
+    else if (call->shows == STORED)
+        printf(" %016llx", (unsigned long long)stored);
     putchar('\n');
     free(out);
     for (int i = 0; i < call->strings; i++)
@@ -92,7 +103,7 @@ int main(void)
         for (size_t i = 0; i < sizeof calls / sizeof calls[0]; i++)
             if (count > 1 && strcmp(words[1], calls[i].name) == 0)
                 call = &calls[i];
-        if (!call || count != 2 + call->strings + call->has_room) {
+        if (!call || count != 2 + call->strings + (call->shows == OUTPUT)) {
             fprintf(stderr, "not a call: %s\n", words[0]);
             return 2;
         }

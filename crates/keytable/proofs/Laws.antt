@@ -1,0 +1,132 @@
+-- The laws of specs/Laws.antt.
+-- Assumes nothing.
+use mathlib.Core.Path.{_≡_, refl, sym, ap, _∙_}
+use mathlib.Core.Bool.{true}
+use mathlib.Core.List.{List, []}
+use mathlib.Core.Option.{Option, some, none}
+use Prim.Native.Nat.{ℕ, _+_, _≤_, _<_}
+use native.Mathlib.Omega.{arith}
+use borrow.Author.Tests.{ne-eqb}
+use lib.ListN.{length}
+use Rattle.octets.proofs.Lent.{one-answer}
+use Rattle.keytable.specs.Tests.{all}
+use Rattle.keytable.specs.Row.{rowSize, nameMax, keyAt, keySize, nameLength, nameOf, named, rowOk}
+use Rattle.keytable.specs.Table.{rowPlace, headOk, tableOk, rows, rowsOf, rowCount, distinct, holders, rowFor, placeOf, rowAt}
+use Rattle.keytable.specs.Calls.{tableNumber, tableAnswer, placeSays}
+use Rattle.keytable.specs.Laws.{NamedWhole, OtherLength, OneRow, AtMostOne, FoundRow, FindsExactly, ElseNothing, RowForGood, OtherRows, HoldersRow, EmptyTable, CheckUnique, FindUnique, FindUseUnique, RowAtUnique, UseAtUnique, KeyAtUnique}
+use Rattle.keytable.proofs.Tests.{all-at, length-part}
+use Rattle.keytable.proofs.Accepted.{head-total, accepted-head, accepted-rows, accepted-distinct, length-rowsOf, rowsOf-at, name-short}
+use Rattle.keytable.proofs.Lookup.{named-whole, named-own, distinct-one, distinct-holders, asList, asList-injective, lookup-one, placeOf-row, placeOf-none}
+use Rattle.keytable.proofs.Calls.{placeIn, placeIn-place, tableIn, tableIn-says, foundIn, foundIn-says}
+
+-- ---- names
+
+pub named-exactly : NamedWhole
+named-exactly name row size ok = (named-whole name row, own)
+  where
+    own : nameOf row ≡ name → named name row ≡ true
+    own e = rw (← e) (named-own row (omega (arith, name-short row ok)))
+
+pub other-length : OtherLength
+unfolding named
+other-length name row n = rw (ne-eqb (nameLength row) (length name) n)
+
+pub one-row : OneRow
+one-row t name i j ok hi hj =
+    distinct-one name (rowsOf t) i j (accepted-distinct t ok) (simp length-rowsOf hi) (simp length-rowsOf hj)
+
+the-row : (t name : List ℕ) → tableOk t ≡ true → holders name (rowsOf t) ≡ asList (rowFor t name)
+the-row t name ok = distinct-holders name (rowsOf t) (accepted-distinct t ok)
+
+pub at-most-one : AtMostOne
+at-most-one t name ok = rw (the-row t name ok) (go (rowFor t name))
+  where
+    go : (o : Option (List ℕ)) → length (asList o) ≤ 1
+    go none = omega arith
+    go (some row) = omega arith
+
+-- ---- the lookup
+
+module _ (t name : List ℕ) (ok : tableOk t ≡ true) (short : length name ≤ nameMax) where
+  found : (p : ℕ) → placeOf t name ≡ some p → (rowFor t name ≡ some (rowAt t p)) × (p + rowSize ≤ length t)
+  found p e = placeOf-row t name (accepted-head t ok) short p e
+
+  absent-row : placeOf t name ≡ none → rowFor t name ≡ none
+  absent-row e = placeOf-none t name (accepted-head t ok) short e
+
+pub finds-exactly : FindsExactly
+finds-exactly t name row ok short = (to, λ e. from (placeOf t name) refl e)
+  where
+    to : FoundRow t name row → rowFor t name ≡ some row
+    to h =
+        let given : placeOf t name ≡ some (h .place) = sym (placeIn-place (placeOf t name)) ∙ ap placeIn (h .answers) in
+        found t name ok short (h .place) given .0 ∙ ap some (h .is)
+
+    from : (o : Option ℕ) → placeOf t name ≡ o → rowFor t name ≡ some row → FoundRow t name row
+    from (some p) given e =
+        let (there, inside) = found t name ok short p given in
+        let is-row : rowAt t p ≡ row = cc in
+        record { place = p; answers = ap placeSays given; is = is-row; within = inside }
+    from none given e =
+        let nowhere = absent-row t name ok short given in
+        let z : _≡_ {A = ℕ} 0 1 = cc in absurd (omega arith)
+
+pub else-nothing : ElseNothing
+else-nothing t name ok short = (to, from (placeOf t name) refl)
+  where
+    to : placeSays (placeOf t name) ≡ (6, []) → rowFor t name ≡ none
+    to e = absent-row t name ok short (sym (placeIn-place (placeOf t name)) ∙ ap placeIn e)
+
+    from : (o : Option ℕ) → placeOf t name ≡ o → rowFor t name ≡ none → placeSays (placeOf t name) ≡ (6, [])
+    from none given e = ap placeSays given
+    from (some p) given e =
+        let (there, inside) = found t name ok short p given in
+        let z : _≡_ {A = ℕ} 0 1 = cc in absurd (omega arith)
+
+pub rowFor-good : RowForGood
+rowFor-good t name row ok e =
+    let one = lookup-one name row (rowsOf t) e in
+    let below : one .number < rowCount t = rw (length-rowsOf t) at (one .below) in
+    let within : rowPlace (one .number) + rowSize ≤ length t = omega (arith, head-total t (accepted-head t ok)) in
+    let size : length row ≡ rowSize =
+    ap length (sym (one .is) ∙ rowsOf-at t (one .number) below) ∙ length-part t (rowPlace (one .number)) rowSize within in
+    record {
+      size = size;
+      ok = ap rowOk (sym (one .is)) ∙ all-at rowOk (rowsOf t) (one .number) [] (accepted-rows t ok) (one .below);
+      name-is = named-whole name row (one .has);
+      key-size = length-part row keyAt keySize (omega arith);
+    }
+
+-- ---- other rows
+
+pub other-rows : OtherRows
+other-rows t u name before ok-t ok-u e = rw (ok-t, ok-u, e)
+
+pub holders-row : HoldersRow
+holders-row t u name ok-t ok-u e = asList-injective _ _ (sym (the-row t name ok-t) ∙ e ∙ the-row u name ok-u)
+
+-- ---- the empty table
+
+pub empty-table : EmptyTable
+unfolding all headOk rows rowsOf distinct tableOk tableNumber tableAnswer
+empty-table = refl
+
+-- ---- one answer
+
+pub check-unique : CheckUnique
+check-unique t a b p q = sym (tableIn-says a) ∙ ap tableIn (p ∙ sym q) ∙ tableIn-says b
+
+pub find-unique : FindUnique
+find-unique t name a b p q = sym (foundIn-says a) ∙ ap foundIn (p ∙ sym q) ∙ foundIn-says b
+
+pub row-at-unique : RowAtUnique
+row-at-unique t at a b p q = one-answer (sym p) (sym q)
+
+pub use-at-unique : UseAtUnique
+use-at-unique t at a b p q = one-answer (sym p) (sym q)
+
+pub key-at-unique : KeyAtUnique
+key-at-unique t at a b p q = one-answer (sym p) (sym q)
+
+pub find-use-unique : FindUseUnique
+find-use-unique t name before a b p q = one-answer p q

@@ -1,0 +1,5 @@
+pub mod Tests
+pub mod Accepted
+pub mod Lookup
+pub mod Calls
+pub mod Laws

@@ -1,0 +1,239 @@
+-- The lookup of a name along the rows of a table: its place, its row, and that no two rows have one name.
+-- Assumes nothing.
+use mathlib.Core.Path.{_≡_, refl, sym, ap, _∙_}
+use mathlib.Core.Bool.{Bool, true, false, _&&_, not, false≢true}
+use mathlib.Core.List.{List, [], _∷_}
+use mathlib.Core.Option.{Option, some, none}
+use Prim.Native.Nat.{ℕ, zero, suc, _+_, _*_, _≤_, _<_}
+use native.Mathlib.Nat.{le-of-suc-le-suc, not-suc-le-zero}
+use native.Mathlib.Numerals.{add-one}
+use native.Mathlib.Omega.{arith}
+use borrow.Author.Tests.{eqb-true, eq-eqb, le-leb, lt-leb, leb-true, not-true}
+use lib.Dec.{eqb, leb}
+use lib.ListN.{length, getD, take, drop, drop-of-length-le}
+use lib.Seq.{drop-cons, drop-drop, take-nil, drop-nil}
+use Rattle.octets.specs.Same.{same}
+use Rattle.octets.specs.Lent.{when}
+use Rattle.octets.proofs.Tests.{and-left, and-right}
+use Rattle.octets.proofs.Same.{same-equal, same-refl}
+use Rattle.keytable.specs.Tests.{all, partOf}
+use Rattle.keytable.specs.Row.{rowSize, nameMax, nameAt, keyAt, keySize, nameLength, nameOf, useOf, keyOf, named}
+use Rattle.keytable.specs.Table.{headSize, rowPlace, headOk, rows, rowsOf, rowCount, absent, distinct, holders, lookup, placeFrom, placeOf, rowAt}
+use Rattle.keytable.proofs.Tests.{all-at, length-part}
+use Rattle.keytable.proofs.Accepted.{head-total, rowsOf-more, rowsOf-done, rowsOf-at}
+
+-- ---- named
+
+-- a name is matched whole: the row's own name is that name
+pub named-whole : (name row : List ℕ) → named name row ≡ true → nameOf row ≡ name
+unfolding named
+named-whole name row e =
+    let size : nameLength row ≡ length name = eqb-true _ _ (and-left (eqb (nameLength row) (length name)) (same (partOf row nameAt (length name)) name) e) in
+    ap (partOf row nameAt) size ∙ same-equal _ _ (and-right (eqb (nameLength row) (length name)) (same (partOf row nameAt (length name)) name) e)
+
+pub named-own : (row : List ℕ) → nameAt + nameLength row ≤ length row → named (nameOf row) row ≡ true
+unfolding named
+named-own row h =
+    rw (length-part row nameAt (nameLength row) h, eq-eqb (nameLength row) (nameLength row) refl) (same-refl (nameOf row))
+
+-- ---- placeFrom
+
+-- along the rows: what is left at row i decides
+module _ (t name : List ℕ) (i : ℕ) where
+  pub place-here : i < rowCount t → named name (partOf t (rowPlace i) rowSize) ≡ true → placeFrom (rowPlace i) name (drop i (rowsOf t)) ≡ some (rowPlace i)
+  unfolding placeFrom
+  place-here h e = rw (drop-cons (rowsOf t) i [] (rowsOf-more t i h), rowsOf-at t i h, e)
+
+  pub place-turn : i < rowCount t → named name (partOf t (rowPlace i) rowSize) ≡ false
+      → placeFrom (rowPlace i) name (drop i (rowsOf t)) ≡ placeFrom (rowPlace (i + 1)) name (drop (i + 1) (rowsOf t))
+  unfolding placeFrom
+  place-turn h e =
+      let next : rowPlace i + rowSize ≡ rowPlace (i + 1) = omega arith in
+      rw (drop-cons (rowsOf t) i [] (rowsOf-more t i h), rowsOf-at t i h, e, next, add-one)
+
+  pub place-end : rowCount t ≤ i → placeFrom (rowPlace i) name (drop i (rowsOf t)) ≡ none
+  unfolding placeFrom
+  place-end h = rw (drop-of-length-le (rowsOf t) (rowsOf-done t i h))
+
+-- there is no place exactly where no row has the name
+pub none-absent : (at : ℕ) (name : List ℕ) (xs : List (List ℕ)) → placeFrom at name xs ≡ none → absent name xs ≡ true
+unfolding all placeFrom
+none-absent at name [] e = refl
+none-absent at name (x ∷ xs) e = go (named name x) (none-absent (at + rowSize) name xs) e
+  where
+    go : (t : Bool) → (placeFrom (at + rowSize) name xs ≡ none → absent name xs ≡ true)
+        → when t (some at) (placeFrom (at + rowSize) name xs) ≡ none → (not t && absent name xs) ≡ true
+    go true ih h = cc
+    go false ih h = ih h
+
+pub some-present : (at p : ℕ) (name : List ℕ) (xs : List (List ℕ)) → placeFrom at name xs ≡ some p → absent name xs ≡ false
+unfolding all placeFrom
+some-present at p name [] e = cc
+some-present at p name (x ∷ xs) e = go (named name x) (some-present (at + rowSize) p name xs) e
+  where
+    go : (t : Bool) → (placeFrom (at + rowSize) name xs ≡ some p → absent name xs ≡ false)
+        → when t (some at) (placeFrom (at + rowSize) name xs) ≡ some p → (not t && absent name xs) ≡ false
+    go true ih h = refl
+    go false ih h = ih h
+
+-- ---- distinct
+
+-- along the rows: what is left at row i decides
+module _ (t : List ℕ) (i : ℕ) where
+  pub distinct-stop : i < rowCount t → absent (nameOf (partOf t (rowPlace i) rowSize)) (drop (i + 1) (rowsOf t)) ≡ false → distinct (drop i (rowsOf t)) ≡ false
+  unfolding distinct
+  distinct-stop h e = rw (drop-cons (rowsOf t) i [] (rowsOf-more t i h), rowsOf-at t i h, ← add-one i, e)
+
+  pub distinct-turn : i < rowCount t → absent (nameOf (partOf t (rowPlace i) rowSize)) (drop (i + 1) (rowsOf t)) ≡ true
+      → distinct (drop i (rowsOf t)) ≡ distinct (drop (i + 1) (rowsOf t))
+  unfolding distinct
+  distinct-turn h e = rw (drop-cons (rowsOf t) i [] (rowsOf-more t i h), rowsOf-at t i h, ← add-one i, e) (rw add-one)
+
+  pub distinct-end : rowCount t ≤ i → distinct (drop i (rowsOf t)) ≡ true
+  unfolding distinct
+  distinct-end h = rw (drop-of-length-le (rowsOf t) (rowsOf-done t i h))
+
+-- a row of the first row's name does not come later
+distinct-later : (name x : List ℕ) (xs : List (List ℕ)) (j : ℕ) → absent (nameOf x) xs ≡ true → j < length xs
+    → named name x ≡ true → named name (getD xs j []) ≡ true → ⊥
+distinct-later name x xs j e h a b =
+    let other = not-true (named (nameOf x) (getD xs j [])) (all-at (λ (row : List ℕ). not (named (nameOf x) row)) xs j [] e h) in
+    false≢true (sym other ∙ ap (λ (n : List ℕ). named n (getD xs j [])) (named-whole name x a) ∙ b)
+
+-- two rows of one name are one
+pub distinct-one : (name : List ℕ) (xs : List (List ℕ)) (i j : ℕ) → distinct xs ≡ true → i < length xs → j < length xs
+    → named name (getD xs i []) ≡ true → named name (getD xs j []) ≡ true → i ≡ j
+unfolding distinct
+distinct-one name [] i j e hi hj a b = absurd (not-suc-le-zero hi)
+distinct-one name (x ∷ xs) zero zero e hi hj a b = refl
+distinct-one name (x ∷ xs) zero (suc j) e hi hj a b = absurd (distinct-later name x xs j (and-left (absent (nameOf x) xs) (distinct xs) e) (le-of-suc-le-suc hj) a b)
+distinct-one name (x ∷ xs) (suc i) zero e hi hj a b = absurd (distinct-later name x xs i (and-left (absent (nameOf x) xs) (distinct xs) e) (le-of-suc-le-suc hi) b a)
+distinct-one name (x ∷ xs) (suc i) (suc j) e hi hj a b =
+    ap suc (distinct-one name xs i j (and-right (absent (nameOf x) xs) (distinct xs) e) (le-of-suc-le-suc hi) (le-of-suc-le-suc hj) a b)
+
+-- ---- lookup
+
+-- the row found is one of the rows, and has the name
+pub record OneOf (name row : List ℕ) (xs : List (List ℕ)) : Type 0 where
+  pub number : ℕ
+  pub below : number < length xs
+  pub is : getD xs number [] ≡ row
+  pub has : named name row ≡ true
+
+pub lookup-one : (name row : List ℕ) (xs : List (List ℕ)) → lookup name xs ≡ some row → OneOf name row xs
+unfolding lookup
+lookup-one name row [] f = let z : _≡_ {A = ℕ} 0 1 = cc in absurd (omega arith)
+lookup-one name row (x ∷ xs) f = go (named name x) refl (lookup-one name row xs) f
+  where
+    go : (t : Bool) → named name x ≡ t → (lookup name xs ≡ some row → OneOf name row xs) → when t (some x) (lookup name xs) ≡ some row → OneOf name row (x ∷ xs)
+    go true hit ih h =
+        let first : x ≡ row = cc in
+        record { number = 0; below = omega arith; is = first; has = ap (named name) (sym first) ∙ hit }
+    go false hit ih h =
+        let later = ih h in
+        record { number = suc (later .number); below = omega (arith, later .below); is = later .is; has = later .has }
+
+-- the row at the place found is the row of the name, and lies within the rows
+place-row : (n at p : ℕ) (s name : List ℕ) → placeFrom at name (rows n (drop at s)) ≡ some p
+    → (lookup name (rows n (drop at s)) ≡ some (partOf s p rowSize)) × (p + rowSize ≤ at + rowSize * n)
+unfolding rows placeFrom lookup
+place-row zero at p s name e = let z : _≡_ {A = ℕ} 0 1 = cc in absurd (omega arith)
+place-row (suc n) at p s name e =
+    rw (drop-drop rowSize at s) (go (named name (partOf s at rowSize)) (place-row n (at + rowSize) p s name) (rw (drop-drop rowSize at s) at e))
+  where
+    go : (t : Bool)
+        → (placeFrom (at + rowSize) name (rows n (drop (at + rowSize) s)) ≡ some p
+        → (lookup name (rows n (drop (at + rowSize) s)) ≡ some (partOf s p rowSize)) × (p + rowSize ≤ at + rowSize + rowSize * n))
+        → when t (some at) (placeFrom (at + rowSize) name (rows n (drop (at + rowSize) s))) ≡ some p
+        → (when t (some (partOf s at rowSize)) (lookup name (rows n (drop (at + rowSize) s))) ≡ some (partOf s p rowSize)) × (p + rowSize ≤ at + rowSize * suc n)
+    go true ih h = let here : at ≡ p = cc in (ap (λ (k : ℕ). some (partOf s k rowSize)) here, omega arith)
+    go false ih h = let (is, within) = ih h in (is, omega arith)
+
+place-none : (at : ℕ) (name : List ℕ) (xs : List (List ℕ)) → placeFrom at name xs ≡ none → lookup name xs ≡ none
+unfolding placeFrom lookup
+place-none at name [] e = refl
+place-none at name (x ∷ xs) e = go (named name x) (place-none (at + rowSize) name xs) e
+  where
+    go : (t : Bool) → (placeFrom (at + rowSize) name xs ≡ none → lookup name xs ≡ none)
+        → when t (some at) (placeFrom (at + rowSize) name xs) ≡ none → when t (some x) (lookup name xs) ≡ none
+    go true ih h = let z : _≡_ {A = ℕ} 0 1 = cc in absurd (omega arith)
+    go false ih h = ih h
+
+-- ---- rowAt
+
+pub rowAt-within : (t : List ℕ) (p : ℕ) → p + rowSize ≤ length t → rowAt t p ≡ partOf t p rowSize
+unfolding rowAt
+rowAt-within t p h = rw (le-leb (p + rowSize) (length t) h)
+
+pub rowAt-past : (t : List ℕ) (p : ℕ) → length t < p + rowSize → rowAt t p ≡ []
+unfolding rowAt
+rowAt-past t p h = rw (lt-leb (p + rowSize) (length t) h)
+
+-- so it has a row's length, or is empty
+pub rowAt-short : (t : List ℕ) (p : ℕ) → length (rowAt t p) < rowSize → rowAt t p ≡ []
+unfolding rowAt
+rowAt-short t p h = go (leb (p + rowSize) (length t)) refl h
+  where
+    go : (in-table : Bool) → leb (p + rowSize) (length t) ≡ in-table → length (when in-table (partOf t p rowSize) []) < rowSize → when in-table (partOf t p rowSize) [] ≡ []
+    go true e less = absurd (omega (arith, length-part t p rowSize (leb-true (p + rowSize) (length t) e)))
+    go false e less = refl
+
+-- its use and its key where it is empty
+pub use-past : (row : List ℕ) → row ≡ [] → useOf row ≡ 0
+use-past row e = ap useOf e
+
+pub key-past : (row : List ℕ) → row ≡ [] → keyOf row ≡ row
+key-past row e = rw e (ap (take keySize) (drop-nil keyAt) ∙ take-nil keySize)
+
+-- ---- placeOf: a header that keeps to the layout, and a name within its maximum
+
+module _ (t name : List ℕ) (head : headOk t ≡ true) (short : length name ≤ nameMax) where
+  pub placeOf-looked : placeOf t name ≡ placeFrom headSize name (rowsOf t)
+  unfolding placeOf
+  placeOf-looked = rw (head, le-leb (length name) nameMax short)
+
+  pub placeOf-row : (p : ℕ) → placeOf t name ≡ some p → (lookup name (rowsOf t) ≡ some (rowAt t p)) × (p + rowSize ≤ length t)
+  unfolding rowsOf
+  placeOf-row p e =
+      let (is, within) = place-row (rowCount t) headSize p t name (sym placeOf-looked ∙ e) in
+      let inside : p + rowSize ≤ length t = omega (arith, head-total t head) in
+      (is ∙ ap some (sym (rowAt-within t p inside)), inside)
+
+  pub placeOf-none : placeOf t name ≡ none → lookup name (rowsOf t) ≡ none
+  placeOf-none e = place-none headSize name (rowsOf t) (sym placeOf-looked ∙ e)
+
+-- ---- holders
+
+absent-none : (name : List ℕ) (xs : List (List ℕ)) → absent name xs ≡ true → holders name xs ≡ []
+unfolding all holders
+absent-none name [] e = refl
+absent-none name (x ∷ xs) e = go (named name x) (absent-none name xs) e
+  where
+    go : (t : Bool) → (absent name xs ≡ true → holders name xs ≡ []) → (not t && absent name xs) ≡ true → when t (x ∷ holders name xs) (holders name xs) ≡ []
+    go true ih h = absurd (false≢true h)
+    go false ih h = ih h
+
+-- a row, or none, as a list
+abbrev pub asList : Option (List ℕ) → List (List ℕ)
+asList none = []
+asList (some row) = row ∷ []
+
+pub asList-injective : (a b : Option (List ℕ)) → asList a ≡ asList b → a ≡ b
+asList-injective none none e = refl
+asList-injective none (some y) e = cc
+asList-injective (some x) none e = cc
+asList-injective (some x) (some y) e = cc
+
+-- among rows no two of which have one name, those of a name are the one that the lookup finds, or none
+pub distinct-holders : (name : List ℕ) (xs : List (List ℕ)) → distinct xs ≡ true → holders name xs ≡ asList (lookup name xs)
+unfolding distinct holders lookup
+distinct-holders name [] e = refl
+distinct-holders name (x ∷ xs) e = go (named name x) refl (distinct-holders name xs (and-right (absent (nameOf x) xs) (distinct xs) e))
+  where
+    others : named name x ≡ true → holders name xs ≡ []
+    others h = absent-none name xs (ap (λ (n : List ℕ). absent n xs) (sym (named-whole name x h)) ∙ and-left (absent (nameOf x) xs) (distinct xs) e)
+
+    go : (t : Bool) → named name x ≡ t → holders name xs ≡ asList (lookup name xs)
+        → when t (x ∷ holders name xs) (holders name xs) ≡ asList (when t (some x) (lookup name xs))
+    go true h ih = ap (λ (l : List (List ℕ)). x ∷ l) (others h)
+    go false h ih = ih

@@ -1,0 +1,68 @@
+-- `keytable::find_use` meets its contract: at each return the tests passed and the one met say which number is the lowest.
+-- Assumes nothing.
+use mathlib.Core.Path.{_≡_, sym, ap, _∙_}
+use mathlib.Core.Bool.{true, false}
+use Prim.Native.Nat.{ℕ}
+use borrow.Author.Needs.{needs}
+use borrow.Author.Tests.{eq-eqb, ne-eqb, lt-ltb, le-ltb}
+use lib.Dec.{eqb, ltb}
+use lib.ListN.{length}
+use Rattle.keytable.specs.Row.{nameMax}
+use Rattle.keytable.specs.Table.{tableOk}
+use Rattle.keytable.proofs.Accepted.{accepted-head}
+use Rattle.keytable.proofs.Calls.{rows-accepted, broken-refused, found-row, found-none, use-one, use-two, use-four, use-six, use-done}
+use Rattle.keytable.proofs.find_use.Statement.{statement}
+use Rattle.keytable.proofs.find_use.Tie as tie
+
+-- what is known past each test
+accepted : (c : tie.After-enum-told) → tableOk (c .before .before .before .before .before .args .t .now) ≡ true
+accepted c = rows-accepted _ _ _ (c .before .before .check .ensures) (c .enum-told .given .1)
+
+given : (c : tie.Else1) → eqb (length (c .before .before .before .before .before .before .args .name .now)) 0 ≡ false
+given c = ne-eqb _ _ (c .if1 .left)
+
+short : (c : tie.Else2) → ltb nameMax (length (c .before .before .before .before .before .before .before .args .name .now)) ≡ false
+short c = le-ltb _ _ (c .if2 .left)
+
+returns : tie.Need-returns
+returns c = use-one _ _ _ _ (broken-refused _ _ (c .before .before .check .ensures) (c .enum-told2 .given .1))
+
+returns-2 : tie.Need-returns-2
+returns-2 c = use-two _ _ _ _ (accepted (c .before)) (eq-eqb _ _ (c .if1 .taken))
+
+returns-3 : tie.Need-returns-3
+returns-3 c = use-four _ _ _ _ (accepted (c .before .before)) (given (c .before)) (lt-ltb _ _ (c .if2 .taken))
+
+returns-4 : tie.Need-returns-4
+returns-4 c =
+    let past = c .before .before .before in
+    let ok = accepted (past .before .before) in
+    let nowhere = found-none _ _ _ (accepted-head _ ok) (past .if2 .left) (c .before .before .find .ensures) (c .enum-told3 .given .1) in
+    use-six _ _ _ _ ok (given (past .before)) (short past) nowhere
+
+returns-5 : tie.Need-returns-5
+returns-5 c =
+    let at-place = c .before .before in
+    let at-find = at-place .before .before in
+    let past = at-find .before in
+    let ok = accepted (past .before .before) in
+    let (row, within) = found-row _ _ _ (accepted-head _ ok) (past .if2 .left) (at-find .find .ensures) _ (at-place .at .given .1) in
+    use-done _ _ _ _ _ ok (given (past .before)) (short past) row ∙ ap (λ (u : ℕ). (0, u)) (sym (c .use-at .ensures))
+
+pub find-use-spec : {M : Type 1} → statement M
+find-use-spec =
+    tie.close
+    (tie.spec
+    (λ c κs. search needs)
+    (λ c. search needs)
+    (λ c. search needs)
+    returns
+    returns-2
+    returns-3
+    (λ c κs. search needs)
+    (λ c. search needs)
+    (λ c. search needs)
+    returns-4
+    (λ c κs. search needs)
+    (λ c. search needs)
+    returns-5)

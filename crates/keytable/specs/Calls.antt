@@ -1,0 +1,65 @@
+-- The calls of the key table: document 01's numbers ("Numbers given back"), and the values that come with 0.
+-- Assumes nothing.
+use Prim.Native.Nat.{ℕ}
+use mathlib.Core.Bool.{Bool, true, false, not}
+use mathlib.Core.List.{List, [], _∷_}
+use mathlib.Core.Option.{Option, some, none}
+use lib.ListN.{length}
+use lib.Dec.{eqb, ltb}
+use Rattle.octets.specs.Lent.{when, lowest}
+use Rattle.keytable.specs.Row.{nameMax, useOf}
+use Rattle.keytable.specs.Table.{rowCount, tableOk, rowFor, placeOf}
+use Rattle.keytable.specs.declared.Found.{Found}
+use Rattle.keytable.specs.declared.Found.the-variants.{At, Nothing}
+use Rattle.keytable.specs.declared.Table.{Table}
+use Rattle.keytable.specs.declared.Table.the-variants.{Rows, Broken}
+
+-- a number, and the values that come with it
+abbrev pub Answer : Type 0
+Answer = ℕ × List ℕ
+
+-- ---- the check: "1: the table breaks its layout, or has more than 64 rows"
+
+unfoldable pub tableNumber : List ℕ → ℕ
+tableNumber t = lowest ((1, not (tableOk t)) ∷ [])
+
+abbrev pub tableSays : Table → Answer
+tableSays (Rows r) = (0, r ∷ [])
+tableSays Broken = (1, [])
+
+unfoldable pub tableAnswer : List ℕ → Answer
+tableAnswer t = (tableNumber t, when (tableOk t) (rowCount t ∷ []) [])
+
+-- ---- the place of a name: "6: no row of that name"
+
+abbrev pub foundSays : Found → Answer
+foundSays (At i) = (0, i ∷ [])
+foundSays Nothing = (6, [])
+
+abbrev pub placeSays : Option ℕ → Answer
+placeSays none = (6, [])
+placeSays (some i) = (0, i ∷ [])
+
+abbrev pub foundAnswer : List ℕ → List ℕ → Answer
+foundAnswer t name = placeSays (placeOf t name)
+
+-- ---- the lookup as a call of its own: by whether the table is accepted and the row that matched; the use is lent, and changed by 0 alone
+
+abbrev pub missing : Option (List ℕ) → Bool
+missing none = true
+missing (some row) = false
+
+abbrev pub useIn : Option (List ℕ) → ℕ
+useIn none = 0
+useIn (some row) = useOf row
+
+unfoldable pub useNumber : Bool → Option (List ℕ) → List ℕ → ℕ
+useNumber ok row name =
+    lowest ((1, not ok) ∷ (2, eqb (length name) 0) ∷ (4, ltb nameMax (length name)) ∷ (6, missing row) ∷ [])
+
+unfoldable pub useAnswer : Bool → Option (List ℕ) → List ℕ → ℕ → ℕ × ℕ
+useAnswer ok row name before =
+    (useNumber ok row name, when (eqb (useNumber ok row name) 0) (useIn row) before)
+
+abbrev pub findUse : List ℕ → List ℕ → ℕ → ℕ × ℕ
+findUse t name before = useAnswer (tableOk t) (rowFor t name) name before

@@ -1,0 +1,100 @@
+-- What the key table promises to the crates above it, as statements; proofs/Laws.antt proves each.
+-- Assumes nothing.
+use mathlib.Core.Path.{_≡_}
+use mathlib.Core.Logic.{_↔_}
+use mathlib.Core.Bool.{true, false}
+use mathlib.Core.List.{List, [], _∷_}
+use mathlib.Core.Option.{some, none}
+use Prim.Native.Nat.{ℕ, _+_, _≤_, _<_}
+use lib.ListN.{length, getD}
+use Rattle.keytable.specs.Row.{nameMax, rowSize, keySize, nameLength, nameOf, useOf, keyOf, rowOk, named}
+use Rattle.keytable.specs.Table.{rowCount, rowsOf, tableOk, holders, rowFor, rowAt}
+use Rattle.keytable.specs.Calls.{tableSays, tableAnswer, foundSays, foundAnswer, findUse}
+use Rattle.keytable.specs.declared.Found.{Found}
+use Rattle.keytable.specs.declared.Table.{Table}
+
+-- ---- names
+
+-- "A name is matched whole": among accepted rows, the name is the row's own, all of it
+abbrev pub NamedWhole : Type 0
+NamedWhole = (name row : List ℕ) → length row ≡ rowSize → rowOk row ≡ true → (named name row ≡ true) ↔ (nameOf row ≡ name)
+
+-- so a row whose name is longer or shorter is another's, were it by one zero byte
+abbrev pub OtherLength : Type 0
+OtherLength = (name row : List ℕ) → (nameLength row ≡ length name → ⊥) → named name row ≡ false
+
+-- "No two rows have the same name": two rows of one name are one row
+abbrev pub OneRow : Type 0
+OneRow =
+    (t name : List ℕ) (i j : ℕ) → tableOk t ≡ true → i < rowCount t → j < rowCount t
+    → named name (getD (rowsOf t) i []) ≡ true → named name (getD (rowsOf t) j []) ≡ true → i ≡ j
+
+abbrev pub AtMostOne : Type 0
+AtMostOne = (t name : List ℕ) → tableOk t ≡ true → length (holders name (rowsOf t)) ≤ 1
+
+-- ---- the lookup
+
+-- row stands at a place that the lookup of the name gives, within the table
+pub record FoundRow (t name row : List ℕ) : Type 0 where
+  pub place : ℕ
+  pub answers : foundAnswer t name ≡ (0, place ∷ [])
+  pub is : rowAt t place ≡ row
+  pub within : place + rowSize ≤ length t
+
+-- a place is given exactly where there is such a row, and the row there is that row
+abbrev pub FindsExactly : Type 0
+FindsExactly = (t name row : List ℕ) → tableOk t ≡ true → length name ≤ nameMax → FoundRow t name row ↔ (rowFor t name ≡ some row)
+
+abbrev pub ElseNothing : Type 0
+ElseNothing = (t name : List ℕ) → tableOk t ≡ true → length name ≤ nameMax → (foundAnswer t name ≡ (6, [])) ↔ (rowFor t name ≡ none)
+
+-- the row of a name in an accepted table keeps to the layout, has that name, and has a whole key
+pub record GoodRow (name row : List ℕ) : Type 0 where
+  pub size : length row ≡ rowSize
+  pub ok : rowOk row ≡ true
+  pub name-is : nameOf row ≡ name
+  pub key-size : length (keyOf row) ≡ keySize
+
+abbrev pub RowForGood : Type 0
+RowForGood = (t name row : List ℕ) → tableOk t ≡ true → rowFor t name ≡ some row → GoodRow name row
+
+-- ---- "Between two accepted tables with the same row for a name, or both with none, the other rows change no answer for that name"
+
+abbrev pub OtherRows : Type 0
+OtherRows =
+    (t u name : List ℕ) (before : ℕ) → tableOk t ≡ true → tableOk u ≡ true → rowFor t name ≡ rowFor u name
+    → findUse t name before ≡ findUse u name before
+
+-- the same, from the rows of that name alone
+abbrev pub HoldersRow : Type 0
+HoldersRow =
+    (t u name : List ℕ) → tableOk t ≡ true → tableOk u ≡ true → holders name (rowsOf t) ≡ holders name (rowsOf u)
+    → rowFor t name ≡ rowFor u name
+
+-- ---- "Empty table: 00 01 00 00 00 08 00 48"
+
+abbrev pub emptyTable : List ℕ
+emptyTable = 0x00 ∷ 0x01 ∷ 0x00 ∷ 0x00 ∷ 0x00 ∷ 0x08 ∷ 0x00 ∷ 0x48 ∷ []
+
+abbrev pub EmptyTable : Type 0
+EmptyTable = tableAnswer emptyTable ≡ (0, 0 ∷ [])
+
+-- ---- for each input one answer, and one state of what is lent
+
+abbrev pub CheckUnique : Type 0
+CheckUnique = (t : List ℕ) (a b : Table) → tableSays a ≡ tableAnswer t → tableSays b ≡ tableAnswer t → a ≡ b
+
+abbrev pub FindUnique : Type 0
+FindUnique = (t name : List ℕ) (a b : Found) → foundSays a ≡ foundAnswer t name → foundSays b ≡ foundAnswer t name → a ≡ b
+
+abbrev pub RowAtUnique : Type 0
+RowAtUnique = (t : List ℕ) (at : ℕ) (a b : List ℕ) → a ≡ rowAt t at → b ≡ rowAt t at → a ≡ b
+
+abbrev pub UseAtUnique : Type 0
+UseAtUnique = (t : List ℕ) (at a b : ℕ) → a ≡ useOf (rowAt t at) → b ≡ useOf (rowAt t at) → a ≡ b
+
+abbrev pub KeyAtUnique : Type 0
+KeyAtUnique = (t : List ℕ) (at : ℕ) (a b : List ℕ) → a ≡ keyOf (rowAt t at) → b ≡ keyOf (rowAt t at) → a ≡ b
+
+abbrev pub FindUseUnique : Type 0
+FindUseUnique = (t name : List ℕ) (before : ℕ) (a b : ℕ × ℕ) → findUse t name before ≡ a → findUse t name before ≡ b → a ≡ b

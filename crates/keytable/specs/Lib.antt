@@ -1,0 +1,5 @@
+pub mod Tests
+pub mod Row
+pub mod Table
+pub mod Calls
+pub mod Laws

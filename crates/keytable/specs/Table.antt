@@ -1,0 +1,90 @@
+-- The key table (document 01, "Key table"): its header, its rows, and the row of a name.
+-- Assumes nothing.
+use Prim.Native.Nat.{ℕ, zero, suc, _+_, _*_}
+use mathlib.Core.Bool.{Bool, true, _&&_, not}
+use mathlib.Core.List.{List, [], _∷_}
+use mathlib.Core.Option.{Option, some, none}
+use lib.ListN.{length, take, drop}
+use lib.Dec.{eqb, leb}
+use Rattle.octets.specs.BigEndian.{numberAt}
+use Rattle.octets.specs.Lent.{when}
+use Rattle.keytable.specs.Tests.{every, all, partOf}
+use Rattle.keytable.specs.Row.{nameMax, rowSize, nameOf, rowOk, named}
+
+-- "Header: 0-1 format 0001h; 2-3 row count r; 4-5 offset of the first row, 0008h; 6-7 row length, 0048h. Total exactly 8+72r"
+abbrev pub tableFormat : ℕ
+tableFormat = 1
+
+abbrev pub headSize : ℕ
+headSize = 8
+
+-- "Maxima": "Table 0 to 64 rows"
+abbrev pub rowMax : ℕ
+rowMax = 64
+
+abbrev pub rowCount : List ℕ → ℕ
+rowCount t = numberAt 2 t 2
+
+-- the place of row number i, from 0
+abbrev pub rowPlace : ℕ → ℕ
+rowPlace i = headSize + rowSize * i
+
+abbrev pub headTests : List ℕ → List Bool
+headTests t =
+    eqb (numberAt 2 t 0) tableFormat
+    ∷ leb (rowCount t) rowMax
+    ∷ eqb (numberAt 2 t 4) headSize
+    ∷ eqb (numberAt 2 t 6) rowSize
+    ∷ eqb (length t) (rowPlace (rowCount t))
+    ∷ []
+
+unfoldable pub headOk : List ℕ → Bool
+headOk t = every (headTests t)
+
+-- the first n rows of s
+unfoldable pub rows : ℕ → List ℕ → List (List ℕ)
+rows zero s = []
+rows (suc n) s = take rowSize s ∷ rows n (drop rowSize s)
+
+unfoldable pub rowsOf : List ℕ → List (List ℕ)
+rowsOf t = rows (rowCount t) (drop headSize t)
+
+-- no row has this name
+abbrev pub absent : List ℕ → List (List ℕ) → Bool
+absent name = all (λ (row : List ℕ). not (named name row))
+
+-- "No two rows have the same name"
+unfoldable pub distinct : List (List ℕ) → Bool
+distinct [] = true
+distinct (row ∷ rest) = absent (nameOf row) rest && distinct rest
+
+abbrev pub tableTests : List ℕ → List Bool
+tableTests t = headOk t ∷ all rowOk (rowsOf t) ∷ distinct (rowsOf t) ∷ []
+
+unfoldable pub tableOk : List ℕ → Bool
+tableOk t = every (tableTests t)
+
+-- "A name is matched whole": the rows of this name, the first of them, and its place where the first row stands at place i
+unfoldable pub holders : List ℕ → List (List ℕ) → List (List ℕ)
+holders name [] = []
+holders name (row ∷ rest) = when (named name row) (row ∷ holders name rest) (holders name rest)
+
+unfoldable pub lookup : List ℕ → List (List ℕ) → Option (List ℕ)
+lookup name [] = none
+lookup name (row ∷ rest) = when (named name row) (some row) (lookup name rest)
+
+unfoldable pub placeFrom : ℕ → List ℕ → List (List ℕ) → Option ℕ
+placeFrom i name [] = none
+placeFrom i name (row ∷ rest) = when (named name row) (some i) (placeFrom (i + rowSize) name rest)
+
+-- the row of a name, and what all definitions above the table take of it
+abbrev pub rowFor : List ℕ → List ℕ → Option (List ℕ)
+rowFor t name = lookup name (rowsOf t)
+
+-- the place of a name's row, where the header keeps to the layout and the name to its maximum, and else none
+unfoldable pub placeOf : List ℕ → List ℕ → Option ℕ
+placeOf t name = when (headOk t && leb (length name) nameMax) (placeFrom headSize name (rowsOf t)) none
+
+-- the row's bytes from a place, and none where they do not lie in the table
+unfoldable pub rowAt : List ℕ → ℕ → List ℕ
+rowAt t i = when (leb (i + rowSize) (length t)) (partOf t i rowSize) []

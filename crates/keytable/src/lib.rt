@@ -1,0 +1,131 @@
+// The key table of document 01: its check, and the lookup of a name. specs/Table.antt has the layout, specs/Calls.antt the numbers.
+mod parts;
+mod row;
+mod rows;
+mod sizes;
+
+use octets::big_endian::read16;
+use parts::part;
+use rows::find_from;
+use rows::names_differ;
+use rows::rows_ok;
+use sizes::HEAD_SIZE;
+use sizes::KEY_AT;
+use sizes::KEY_SIZE;
+use sizes::NAME_MAX;
+use sizes::ROW_MAX;
+use sizes::ROW_SIZE;
+use sizes::TABLE_FORMAT;
+ghost use mathlib.Core.Path.{_≡_};
+ghost use Rattle.keytable.specs.Row.{useOf, keyOf};
+ghost use Rattle.keytable.specs.Table.{headOk, rowAt};
+ghost use Rattle.keytable.specs.Calls.{tableSays, tableAnswer, foundSays, foundAnswer, findUse};
+
+// What checking a table finds: the number of its rows.
+pub enum Table {
+    Rows(usize),
+    Broken,
+}
+
+// What a lookup finds: the place of the name's row, for the crates above; it is never answered outside.
+pub enum Found {
+    At(usize),
+    Nothing,
+}
+
+// Whether the header keeps to the layout, and the total to its count of rows.
+fn head_ok(t: &[u8]) -> bool
+    ensures { λ ok. ⌜ ok ≡ headOk (now (t .entry)) ⌝ }
+{
+    let r = read16(t, 2);
+    (read16(t, 0) == TABLE_FORMAT)
+        & (r <= ROW_MAX)
+        & (read16(t, 4) == HEAD_SIZE)
+        & (read16(t, 6) == ROW_SIZE)
+        & (t.len() == HEAD_SIZE + ROW_SIZE * r)
+}
+
+// Checks a table: its count of rows, or Broken, which is number 1.
+pub fn check(t: &[u8]) -> Table
+    ensures { λ a. ⌜ tableSays a ≡ tableAnswer (now (t .entry)) ⌝ }
+{
+    if !head_ok(t) {
+        return Table::Broken;
+    }
+    let r = read16(t, 2);
+    if !rows_ok(t, r) {
+        return Table::Broken;
+    }
+    if !names_differ(t, r) {
+        return Table::Broken;
+    }
+    Table::Rows(r)
+}
+
+// The place of the first row with this whole name. Nothing where there is none, where the header breaks its layout, and for a name of more than 32 bytes.
+pub fn find(t: &[u8], name: &[u8]) -> Found
+    ensures { λ f. ⌜ foundSays f ≡ foundAnswer (now (t .entry)) (now (name .entry)) ⌝ }
+{
+    if !head_ok(t) {
+        return Found::Nothing;
+    }
+    if name.len() > NAME_MAX {
+        return Found::Nothing;
+    }
+    find_from(t, read16(t, 2), 0, name)
+}
+
+// The bytes of the row at a place, and none where they do not lie in the table.
+pub fn row_at(t: &[u8], at: usize) -> &[u8]
+    ensures { λ r. ⌜ now r ≡ rowAt (now (t .entry)) at ⌝ }
+{
+    if at > t.len() {
+        return part(t, 0, 0);
+    }
+    if t.len() - at < ROW_SIZE {
+        return part(t, 0, 0);
+    }
+    part(t, at, ROW_SIZE)
+}
+
+// The use and the key of the row at a place; 0 and none where no row lies there.
+pub fn use_at(t: &[u8], at: usize) -> u8
+    ensures { λ u. ⌜ u ≡ useOf (rowAt (now (t .entry)) at) ⌝ }
+{
+    let row = row_at(t, at);
+    if row.len() < ROW_SIZE {
+        return 0;
+    }
+    row[1]
+}
+
+pub fn key_at(t: &[u8], at: usize) -> &[u8]
+    ensures { λ k. ⌜ now k ≡ keyOf (rowAt (now (t .entry)) at) ⌝ }
+{
+    let row = row_at(t, at);
+    if row.len() < ROW_SIZE {
+        return row;
+    }
+    part(row, KEY_AT, KEY_SIZE)
+}
+
+// Stores the use of the name's row, and answers 0; or changes nothing, and answers 1 where the table is broken, 2 for an empty name,
+// 4 for one of more than 32 bytes, or 6 where no row has the name.
+pub fn find_use(t: &[u8], name: &[u8], use_out: &mut u64) -> u8
+    ensures { λ n. ⌜ findUse (now (t .entry)) (now (name .entry)) (now (use_out .entry)) ≡ (n, now (use_out .exit)) ⌝ }
+{
+    let Table::Rows(_) = check(t) else {
+        return 1;
+    };
+    if name.len() == 0 {
+        return 2;
+    }
+    if name.len() > NAME_MAX {
+        return 4;
+    }
+    let Found::At(at) = find(t, name) else {
+        return 6;
+    };
+    *use_out = use_at(t, at) as u64;
+    0
+}
