@@ -1,6 +1,6 @@
--- A running chain along a string from a place on: a whole block at a time, a part up to the end of a block, and the last block added byte by byte.
+-- What is left of a string from a place on, and a running chain along it: after the last byte, a whole block at a time, and from within a block.
 -- Assumes nothing.
-use mathlib.Core.Path.{_≡_, sym, ap, ap₂, _∙_}
+use mathlib.Core.Path.{_≡_, sym, ap, _∙_}
 use mathlib.Core.List.{List}
 use Prim.Native.Nat.{ℕ, _+_, _-_, _%_, _≤_, _<_}
 use native.Mathlib.Omega.{arith}

@@ -1,14 +1,14 @@
--- CCM's formatted blocks as the code makes them, for any f whose every value has 16 bytes: the first block, the data in two parts, and the tag.
+-- CCM as the code makes it, for any f whose every value has 16 bytes: the first block, the data in two parts, the text, the tag, and both in the output.
 -- Assumes nothing.
 use mathlib.Core.Path.{_≡_, refl, sym, ap, ap₂, _∙_}
 use mathlib.Core.Bool.{Bool, true, false, not, false≢true}
 use mathlib.Core.List.{List, [], _∷_, _++_}
-use Prim.Native.Nat.{ℕ, suc, _+_, _/_, _%_, _≤_}
+use Prim.Native.Nat.{ℕ, suc, _+_, _-_, _/_, _%_, _≤_}
 use native.Mathlib.Nat.{div-one}
 use native.Mathlib.Omega.{arith}
 use borrow.Author.Tests.{eq-eqb, ne-eqb}
 use lib.Dec.{eqb, lit<}
-use lib.ListN.{length, getD, take, length-append}
+use lib.ListN.{length, getD, take, drop, length-append}
 use lib.Seq.{take-at}
 use Rattle.octets.specs.Values.{values}
 use Rattle.octets.specs.BigEndian.{be}
@@ -26,7 +26,8 @@ use Rattle.modes.specs.Counter.{counterBlock, counterAnswer, frontOf}
 use Rattle.modes.specs.Ccm.{flags, firstBlock, dataBlocks, mac, front, firstPad, text, tagOf, tagRight}
 use Rattle.modes.specs.Calls.{textMax}
 use Rattle.modes.proofs.Limits.{counterFits-three, counterAnswer-fits}
-use Rattle.modes.proofs.Stream.{length-ctr}
+use Rattle.modes.proofs.Stream.{length-ctr, ctr-ctr}
+use Rattle.modes.proofs.Sealed.{over-then}
 
 -- ---- the first block and the counter blocks' front
 
@@ -81,8 +82,19 @@ module _ (f : List ℕ → List ℕ) where
       → r ≡ close f ((2 + (length a + length b)) % 16) v → r ≡ chain f y (dataBlocks (a ++ b))
   data-steps sizes y a b size x u v r h some es ex eu ev er = rw (er, ev, eu, ex, es) (data-parts sizes y a b h some)
 
--- ---- the text, as the counter routine writes it
+-- ---- the text
 
+module _ (f : List ℕ → List ℕ) (size : (x : List ℕ) → length (f x) ≡ 16) (iv : List ℕ) where
+  pub length-text : (s : List ℕ) → length (text f iv s) ≡ length s
+  unfolding text
+  length-text s = length-ctr f size 3 (front iv) 1 s
+
+  -- the same sum gives the ciphertext and the plaintext
+  pub text-text : (s : List ℕ) → text f iv (text f iv s) ≡ s
+  unfolding text
+  text-text s = ctr-ctr f size 3 (front iv) 1 s
+
+-- as the counter routine writes it
 pub counter-text : (f : List ℕ → List ℕ) (iv s base out : List ℕ) (x : ℕ × List ℕ) → length iv ≡ 12 → length s ≤ textMax → base ≡ front iv ++ be 3 0
     → counterAnswer f 3 (frontOf false base) 1 s out ≡ x → (0, over (text f iv s) out) ≡ x
 unfolding text
@@ -94,7 +106,7 @@ counter-text f iv s base out x size short eb e =
 
 -- ---- the tag
 
--- what the sum of two strings is equal to
+-- one string with k is the other exactly where the other with k is the one
 same-moved : (a b k : List ℕ) → length a ≤ length k → length b ≤ length k → same (xors a k) b ≡ same (xors b k) a
 same-moved a b k ha hb = go (same (xors a k) b) refl
   where
@@ -103,10 +115,6 @@ same-moved a b k ha hb = go (same (xors a k) b) refl
     go false e = sym (same-differ (xors b k) a (λ q. false≢true (sym e ∙ ap (λ (l : List ℕ). same l b) (ap (λ (l : List ℕ). xors l k) (sym q) ∙ xors-cancel b k hb) ∙ same-refl b)))
 
 module _ (f : List ℕ → List ℕ) (size : (x : List ℕ) → length (f x) ≡ 16) (iv a : List ℕ) where
-  pub length-text : (s : List ℕ) → length (text f iv s) ≡ length s
-  unfolding text
-  length-text s = length-ctr f size 3 (front iv) 1 s
-
   length-mac : (p : List ℕ) → length (mac f iv a p) ≡ 16
   unfolding mac
   length-mac p = length-chain f size (f (firstBlock iv a (length p))) (dataBlocks a ++ cut p) (size (firstBlock iv a (length p)))
@@ -128,3 +136,15 @@ module _ (f : List ℕ → List ℕ) (size : (x : List ℕ) → length (f x) ≡
   unfolding mac tagOf
   tag-steps p z m pad r ez em ep er =
       er ∙ ap₂ xors (em ∙ ap (λ (y : List ℕ). chain f y (cut p)) ez ∙ sym (chain-append f (f (firstBlock iv a (length p))) (dataBlocks a) (cut p))) ep
+
+-- ---- the ciphertext over the front of the output, and the tag after it
+
+module _ (f : List ℕ → List ℕ) (size : (x : List ℕ) → length (f x) ≡ 16) (iv a p : List ℕ) where
+  pub sealed-steps : (base tag out out₁ ys : List ℕ) (r : ℕ) → length iv ≡ 12 → length p ≤ textMax → length p + 16 ≤ length out
+      → base ≡ front iv ++ be 3 0 → tag ≡ tagOf f iv a p → counterAnswer f 3 (frontOf false base) 1 p out ≡ (r, out₁)
+      → ys ≡ over tag (take (length out₁ - length p) (drop (length p) out₁))
+      → take (length p) out₁ ++ (ys ++ drop (length out₁ - length p) (drop (length p) out₁)) ≡ over (text f iv p ++ tagOf f iv a p) out
+  sealed-steps base tag out out₁ ys r h short fits eb et er ey =
+      over-then (text f iv p) (tagOf f iv a p) out out₁ ys (length p) (length-text f size iv p) (omega (arith, length-tagOf f size iv a p))
+      (sym (ap (λ (x : ℕ × List ℕ). x .1) (counter-text f iv p base out (r, out₁) h short eb er)))
+      (ey ∙ ap (λ (t : List ℕ). over t (take (length out₁ - length p) (drop (length p) out₁))) et)

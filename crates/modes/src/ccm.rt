@@ -24,6 +24,7 @@ ghost use Prim.Native.Nat.{_+_, _≤_, _<_};
 ghost use lib.ListN.{length};
 ghost use Rattle.octets.specs.BigEndian.{be};
 ghost use Rattle.octets.specs.Blocks.{cut, chain};
+ghost use Rattle.octets.specs.Same.{same};
 ghost use Rattle.octets.specs.Lent.{lowest, over, answer};
 ghost use Rattle.octets.specs.Xor.{xors};
 ghost use Rattle.aes.specs.Cipher.{cipher};
@@ -31,7 +32,7 @@ ghost use Rattle.aes.specs.KeyExpansion.{schedule};
 ghost use Rattle.aes_fast.specs.Right.{Right};
 ghost use Rattle.modes.specs.Mode.{sealed};
 ghost use Rattle.modes.specs.Counter.{counterBlock, ctr, frontOf};
-ghost use Rattle.modes.specs.Ccm.{flags, hasData, firstBlock, dataBlocks, mac, front, firstPad, text, tagOf, tagRight, ccm};
+ghost use Rattle.modes.specs.Ccm.{flags, firstBlock, dataBlocks, front, firstPad, text, tagOf, tagRight, ccm};
 ghost use Rattle.modes.specs.Calls.{encryptAnswer, decryptAnswer};
 
 // The flags of the first block: 7Ah with associated data, 3Ah without.
@@ -153,32 +154,7 @@ fn tag_of(
     xor_blocks(y, first_pad(t, ks, iv))
 }
 
-// The chain along the plaintext that a ciphertext gives, which is written nowhere.
-fn chain_opened(
-    t: &[[u32; 256]; 4],
-    ks: [[[u8; 4]; 4]; 15],
-    iv: [u8; 12],
-    y: [u8; 16],
-    c: &[u8],
-) -> [u8; 16]
-    requires { ⌜ Right (now t) × (length (now c) < 16777216) ⌝ }
-    ensures { λ r. ⌜ r ≡ chain (cipher ks) y (cut (text (cipher ks) iv (now (c .entry)))) ⌝ }
-{
-    let base = base_of(iv);
-    let n = c.len();
-    let mut x = y;
-    let mut at = 0;
-    let mut k = 1;
-    while 16 <= n - at {
-        let u = open_block(t, ks, base, k, x, block_at(c, at));
-        x = u;
-        at += 16;
-        k += 1;
-    }
-    open_last(t, ks, base, k, x, &c[at..])
-}
-
-// The same of one block, with counter k, and of a last part that is shorter than a block.
+// The chain along one block of the plaintext that a ciphertext gives, with counter k, and along a last part that is shorter than a block. Neither is written anywhere.
 fn open_block(
     t: &[[u32; 256]; 4],
     ks: [[[u8; 4]; 4]; 15],
@@ -218,6 +194,39 @@ fn open_last(
     aes_fast::encrypt(t, ks, x)
 }
 
+// The same of a whole ciphertext.
+fn chain_opened(
+    t: &[[u32; 256]; 4],
+    ks: [[[u8; 4]; 4]; 15],
+    iv: [u8; 12],
+    y: [u8; 16],
+    c: &[u8],
+) -> [u8; 16]
+    requires { ⌜ Right (now t) × (length (now c) < 16777216) ⌝ }
+    ensures { λ r. ⌜ r ≡ chain (cipher ks) y (cut (text (cipher ks) iv (now (c .entry)))) ⌝ }
+{
+    let base = base_of(iv);
+    let n = c.len();
+    let mut x = y;
+    let mut at = 0;
+    let mut k = 1;
+    while 16 <= n - at {
+        let u = open_block(t, ks, base, k, x, block_at(c, at));
+        x = u;
+        at += 16;
+        k += 1;
+    }
+    open_last(t, ks, base, k, x, &c[at..])
+}
+
+// Whether the tag is the right one, over all its bytes.
+fn same_tag(right: [u8; 16], tag: &[u8]) -> bool
+    requires { ⌜ length (now tag) ≡ 16 ⌝ }
+    ensures { λ r. ⌜ r ≡ same right (now (tag .entry)) ⌝ }
+{
+    equal(&right, tag)
+}
+
 // Whether the tag is right. The test is lent no output: a plaintext that is not authentic has nowhere to go.
 fn authentic(
     t: &[[u32; 256]; 4],
@@ -232,8 +241,7 @@ fn authentic(
     ensures { λ r. ⌜ r ≡ tagRight (cipher ks) iv (now (a .entry) ++ now (b .entry)) (now (c .entry)) (now (tag .entry)) ⌝ }
 {
     let y = chain_opened(t, ks, iv, chain_start(t, ks, iv, a, b, c.len()), c);
-    let right = xor_blocks(y, first_pad(t, ks, iv));
-    equal(&right, tag)
+    same_tag(xor_blocks(y, first_pad(t, ks, iv)), tag)
 }
 
 fn seal(key: [u8; 32], iv: [u8; 12], a: &[u8], b: &[u8], p: &[u8], out: &mut [u8])

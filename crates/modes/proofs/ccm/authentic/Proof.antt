@@ -15,7 +15,7 @@ use Rattle.modes.proofs.ccm.authentic.Tie as tie
 
 returns : tie.Need-returns
 returns c =
-    let added = c .before .before in
+    let added = c .before in
     let padded = added .before in
     let along = padded .before in
     let begun = along .before in
@@ -24,10 +24,10 @@ returns c =
     let F = cipher (a .ks) in
     let ab = a .a .now ++ a .b .now in
     let size = cipher-length (a .ks) in
-    c .equal .ensures
+    c .same-tag .ensures
     ∙ ap (λ (r : List ℕ). same r (a .tag .now))
     (tag-steps F size (a .iv) ab (text F (a .iv) (a .c .now)) _ _ _ _
-    (begun .chain-start .ensures ∙ ap (λ (n : ℕ). chain F (F (firstBlock (a .iv) ab n)) (dataBlocks ab)) (sym (length-text F size (a .iv) ab (a .c .now))))
+    (begun .chain-start .ensures ∙ ap (λ (n : ℕ). chain F (F (firstBlock (a .iv) ab n)) (dataBlocks ab)) (sym (length-text F size (a .iv) (a .c .now))))
     (along .chain-opened .ensures) (padded .first-pad .ensures) (added .xor-blocks .ensures))
     ∙ sym (tagRight-same F size (a .iv) ab (a .c .now) (a .tag .now) (start .pre .3))
 
@@ -39,6 +39,5 @@ authentic-spec =
     (λ c κs. search needs)
     (λ c κs. search needs)
     (λ c κs. search needs)
-    (λ c. search needs)
     (λ c κs. search needs)
     returns)

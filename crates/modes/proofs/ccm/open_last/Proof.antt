@@ -5,6 +5,7 @@ use mathlib.Core.Bool.{false}
 use mathlib.Core.List.{List}
 use Prim.Native.Nat.{ℕ, _-_, _≤_}
 use native.Mathlib.Omega.{arith}
+use borrow.Author.Needs.{needs}
 use lib.ListN.{length, drop, length-set}
 use Rattle.octets.specs.Xor.{xors}
 use Rattle.octets.specs.Running.{addFrom}
@@ -12,7 +13,6 @@ use Rattle.aes.specs.Cipher.{cipher}
 use Rattle.aes.proofs.Laws.{cipher-length}
 use Rattle.modes.specs.Counter.{frontOf}
 use Rattle.modes.proofs.Opened.{sum-turn, sum-end, opened-none, opened-last}
-use borrow.Author.Needs.{needs}
 use Rattle.modes.proofs.ccm.open_last.Statement.{statement}
 use Rattle.modes.proofs.ccm.open_last.Tie as tie
 

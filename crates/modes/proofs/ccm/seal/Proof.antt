@@ -1,19 +1,17 @@
 -- `modes::ccm::seal` meets its contract: the ciphertext over the front of the output, and the tag after it.
 -- Assumes nothing.
-use mathlib.Core.Path.{sym, ap, _∙_}
+use mathlib.Core.Path.{ap, _∙_}
 use mathlib.Core.List.{List, _++_}
 use Prim.Native.Nat.{ℕ}
 use native.Mathlib.Omega.{arith}
 use borrow.Author.Needs.{needs}
-use lib.ListN.{length}
 use Rattle.octets.specs.Lent.{over}
 use Rattle.aes.specs.State.{State}
 use Rattle.aes.specs.Cipher.{cipher}
 use Rattle.aes.proofs.Laws.{cipher-length}
 use Rattle.aes_fast.proofs.Laws.{roundTables-right}
 use Rattle.modes.specs.Ccm.{text, tagOf}
-use Rattle.modes.proofs.Formatted.{length-text, counter-text}
-use Rattle.modes.proofs.Sealed.{over-then}
+use Rattle.modes.proofs.Formatted.{sealed-steps}
 use Rattle.modes.proofs.ccm.seal.Statement.{statement}
 use Rattle.modes.proofs.ccm.seal.Tie as tie
 
@@ -33,11 +31,8 @@ returns c =
     let a = start .args in
     let F = cipher (made .expand-key .result) in
     let ab = a .a .now ++ a .b .now in
-    over-then (text F (a .iv) (a .p .now)) (tagged .tag-of .result) (a .out .now) _ _ (length (a .p .now)) (length-text F (cipher-length _) (a .iv) ab (a .p .now))
-    (omega (arith, tagged .tag-of .ok .1 .0 .1, start .pre .2))
-    (sym (ap (λ (x : ℕ × List ℕ). x .1) (counter-text F (a .iv) (a .p .now) _ (a .out .now) _ (start .good .1 .0 .1 .0 .1) (start .pre .1) (base .base-of .ensures) (ran .counter .ensures))))
-    (c .before .before .put .ensures)
-    ∙ ap (λ (t : List ℕ). over (text F (a .iv) (a .p .now) ++ t) (a .out .now)) (tagged .tag-of .ensures)
+    sealed-steps F (cipher-length (made .expand-key .result)) (a .iv) ab (a .p .now) _ _ (a .out .now) _ _ _ (start .good .1 .0 .1 .0 .1) (start .pre .1) (start .pre .2)
+    (base .base-of .ensures) (tagged .tag-of .ensures) (ran .counter .ensures) (c .before .before .put .ensures)
     ∙ ap (λ (ks : List State). over (text (cipher ks) (a .iv) (a .p .now) ++ tagOf (cipher ks) (a .iv) ab (a .p .now)) (a .out .now)) (made .expand-key .ensures)
 
 pub seal-spec : {M : Type 1} → statement M

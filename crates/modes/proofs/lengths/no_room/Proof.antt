@@ -1,4 +1,4 @@
--- `modes::lengths::no_room` meets its contract: tested without the sum.
+-- `modes::lengths::no_room` meets its contract: what is left of the output is less than `more` exactly where the sum is past its end.
 -- Assumes nothing.
 use borrow.Author.Needs.{needs}
 use mathlib.Core.Path.{sym}
