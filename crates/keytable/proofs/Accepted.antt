@@ -9,10 +9,10 @@ use native.Mathlib.Omega.{arith}
 use borrow.Author.Tests.{leb-true, eqb-true}
 use lib.ListN.{length, getD, take, drop}
 use lib.Seq.{drop-drop}
-use Rattle.keytable.specs.Tests.{all, partOf}
+use Rattle.octets.specs.Tests.{all, partOf}
 use Rattle.keytable.specs.Row.{rowSize, nameMax, nameLength, rowOk, rowTests}
 use Rattle.keytable.specs.Table.{headSize, rowPlace, headOk, headTests, tableOk, tableTests, rows, rowsOf, rowCount, distinct}
-use Rattle.keytable.proofs.Tests.{all-stop, all-turn, all-end, all-at, every-at}
+use Rattle.octets.proofs.Tests.{all-stop, all-turn, all-end, all-at, every-at}
 
 -- ---- the header
 

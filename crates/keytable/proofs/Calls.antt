@@ -14,11 +14,11 @@ use Rattle.keytable.specs.declared.Found.{Found}
 use Rattle.keytable.specs.declared.Found.the-variants.{At, Nothing}
 use Rattle.keytable.specs.declared.Table.{Table}
 use Rattle.keytable.specs.declared.Table.the-variants.{Rows, Broken}
-use Rattle.keytable.specs.Tests.{all}
+use Rattle.octets.specs.Tests.{all}
 use Rattle.keytable.specs.Row.{rowOk, nameMax, rowSize, useOf}
 use Rattle.keytable.specs.Table.{headOk, tableOk, tableTests, rowCount, rowsOf, distinct, rowFor, absent, placeFrom, placeOf, rowAt}
 use Rattle.keytable.specs.Calls.{Answer, tableNumber, tableSays, tableAnswer, foundSays, placeSays, foundAnswer, useNumber, useAnswer}
-use Rattle.keytable.proofs.Tests.{every-not}
+use Rattle.octets.proofs.Tests.{every-not}
 use Rattle.keytable.proofs.Lookup.{some-present, none-absent, placeOf-row, placeOf-none}
 
 -- ---- the check

@@ -9,12 +9,12 @@ use native.Mathlib.Omega.{arith}
 use borrow.Author.Tests.{ne-eqb}
 use lib.ListN.{length}
 use Rattle.octets.proofs.Lent.{one-answer}
-use Rattle.keytable.specs.Tests.{all}
+use Rattle.octets.specs.Tests.{all}
 use Rattle.keytable.specs.Row.{rowSize, nameMax, keyAt, keySize, nameLength, nameOf, named, rowOk}
 use Rattle.keytable.specs.Table.{rowPlace, headOk, tableOk, rows, rowsOf, rowCount, distinct, holders, rowFor, placeOf, rowAt}
 use Rattle.keytable.specs.Calls.{tableNumber, tableAnswer, placeSays}
 use Rattle.keytable.specs.Laws.{NamedWhole, OtherLength, OneRow, AtMostOne, FoundRow, FindsExactly, ElseNothing, RowForGood, OtherRows, HoldersRow, EmptyTable, CheckUnique, FindUnique, FindUseUnique, RowAtUnique, UseAtUnique, KeyAtUnique}
-use Rattle.keytable.proofs.Tests.{all-at, length-part}
+use Rattle.octets.proofs.Tests.{all-at, length-part}
 use Rattle.keytable.proofs.Accepted.{head-total, accepted-head, accepted-rows, accepted-distinct, length-rowsOf, rowsOf-at, name-short}
 use Rattle.keytable.proofs.Lookup.{named-whole, named-own, distinct-one, distinct-holders, asList, asList-injective, lookup-one, placeOf-row, placeOf-none}
 use Rattle.keytable.proofs.Calls.{placeIn, placeIn-place, tableIn, tableIn-says, foundIn, foundIn-says}

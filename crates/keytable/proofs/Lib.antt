@@ -1,4 +1,3 @@
-pub mod Tests
 pub mod Accepted
 pub mod Lookup
 pub mod Calls

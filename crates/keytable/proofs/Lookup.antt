@@ -16,10 +16,10 @@ use Rattle.octets.specs.Same.{same}
 use Rattle.octets.specs.Lent.{when}
 use Rattle.octets.proofs.Tests.{and-left, and-right}
 use Rattle.octets.proofs.Same.{same-equal, same-refl}
-use Rattle.keytable.specs.Tests.{all, partOf}
+use Rattle.octets.specs.Tests.{all, partOf}
 use Rattle.keytable.specs.Row.{rowSize, nameMax, nameAt, keyAt, keySize, nameLength, nameOf, useOf, keyOf, named}
 use Rattle.keytable.specs.Table.{headSize, rowPlace, headOk, rows, rowsOf, rowCount, absent, distinct, holders, lookup, placeFrom, placeOf, rowAt}
-use Rattle.keytable.proofs.Tests.{all-at, length-part}
+use Rattle.octets.proofs.Tests.{all-at, length-part}
 use Rattle.keytable.proofs.Accepted.{head-total, rowsOf-more, rowsOf-done, rowsOf-at}
 
 -- ---- named

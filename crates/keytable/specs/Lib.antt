@@ -1,4 +1,3 @@
-pub mod Tests
 pub mod Row
 pub mod Table
 pub mod Calls

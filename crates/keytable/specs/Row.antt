@@ -6,7 +6,7 @@ use mathlib.Core.List.{List, [], _∷_}
 use lib.ListN.{length, getD}
 use lib.Dec.{eqb, leb}
 use Rattle.octets.specs.Same.{same}
-use Rattle.keytable.specs.Tests.{every, zeros, partOf}
+use Rattle.octets.specs.Tests.{every, zeros, partOf}
 
 -- "Row: 0 name length 1 to 32; 1 use (01h CCM, 02h GCM, 03h key-encrypting key); 2-7 zero; 8-39 name, zeros after its length; 40-71 key"
 abbrev pub nameMax : ℕ

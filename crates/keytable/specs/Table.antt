@@ -8,7 +8,7 @@ use lib.ListN.{length, take, drop}
 use lib.Dec.{eqb, leb}
 use Rattle.octets.specs.BigEndian.{numberAt}
 use Rattle.octets.specs.Lent.{when}
-use Rattle.keytable.specs.Tests.{every, all, partOf}
+use Rattle.octets.specs.Tests.{every, all, partOf}
 use Rattle.keytable.specs.Row.{nameMax, rowSize, nameOf, rowOk, named}
 
 -- "Header: 0-1 format 0001h; 2-3 row count r; 4-5 offset of the first row, 0008h; 6-7 row length, 0048h. Total exactly 8+72r"

@@ -2,7 +2,7 @@
 ghost use mathlib.Core.Path.{_≡_};
 ghost use Prim.Native.Nat.{_+_, _≤_, _<_};
 ghost use lib.ListN.{length};
-ghost use Rattle.keytable.specs.Tests.{partOf, zeros};
+ghost use Rattle.octets.specs.Tests.{partOf};
 
 // A byte as a wider number, and that it is below 256.
 pub(crate) fn wide(b: u8) -> usize
@@ -18,18 +18,4 @@ pub(crate) fn part(s: &[u8], i: usize, n: usize) -> &[u8]
 {
     let e = i + n;
     &s[i..e]
-}
-
-// Whether every byte is zero.
-pub(crate) fn all_zero(s: &[u8]) -> bool
-    ensures { λ r. ⌜ r ≡ zeros (now (s .entry)) ⌝ }
-{
-    let mut i = 0;
-    while i < s.len() {
-        if s[i] != 0 {
-            return false;
-        }
-        i += 1;
-    }
-    true
 }

@@ -1,10 +1,10 @@
 // A row of the key table: its layout, and which name it answers to. specs/Row.antt has the definitions.
-use crate::parts::all_zero;
 use crate::parts::part;
 use crate::parts::wide;
 use crate::sizes::NAME_AT;
 use crate::sizes::NAME_MAX;
 use crate::sizes::USE_MAX;
+use octets::strings::all_zero;
 use octets::strings::equal;
 ghost use mathlib.Core.Path.{_≡_};
 ghost use Prim.Native.Nat.{_≤_};

@@ -11,7 +11,7 @@ ghost use mathlib.Core.Path.{_≡_};
 ghost use mathlib.Core.Bool.{true};
 ghost use Prim.Native.Nat.{_≤_};
 ghost use lib.ListN.{length, drop};
-ghost use Rattle.keytable.specs.Tests.{all};
+ghost use Rattle.octets.specs.Tests.{all};
 ghost use Rattle.keytable.specs.Row.{nameMax, rowOk};
 ghost use Rattle.keytable.specs.Table.{rowPlace, rowCount, rowsOf, distinct, placeFrom};
 ghost use Rattle.keytable.specs.Calls.{foundSays, placeSays};

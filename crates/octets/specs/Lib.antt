@@ -6,3 +6,4 @@ pub mod Same
 pub mod Lent
 pub mod Blocks
 pub mod Running
+pub mod Tests

@@ -1,4 +1,4 @@
-// Big-endian numbers of 2, 4 and 8 bytes. Reading past the end of a string gives zeros.
+// Big-endian numbers of 1, 2, 4 and 8 bytes. Reading past the end of a string gives zeros.
 ghost use mathlib.Core.Path.{_≡_};
 ghost use Prim.Native.Nat.{_+_, _<_};
 ghost use lib.ListN.{getD};
@@ -25,6 +25,12 @@ fn four_at(s: &[u8], i: usize, k: usize) -> usize
         + byte_at(s, i, k + 1) * 65536
         + byte_at(s, i, k + 2) * 256
         + byte_at(s, i, k + 3)
+}
+
+pub fn read8(s: &[u8], i: usize) -> usize
+    ensures { λ r. ⌜ (r ≡ getD (now (s .entry)) i 0) × (r < 256) ⌝ }
+{
+    byte_at(s, i, 0)
 }
 
 pub fn read16(s: &[u8], i: usize) -> usize

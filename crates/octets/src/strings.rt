@@ -3,6 +3,7 @@ ghost use mathlib.Core.Path.{_≡_};
 ghost use Rattle.octets.specs.Xor.{xors};
 ghost use Rattle.octets.specs.Same.{same};
 ghost use Rattle.octets.specs.Lent.{over};
+ghost use Rattle.octets.specs.Tests.{partOf, zeros};
 
 // Whether two strings have the same length and the same bytes. Every byte is looked at, whatever the earlier ones are.
 pub fn equal(a: &[u8], b: &[u8]) -> bool
@@ -56,4 +57,32 @@ pub fn put(out: &mut [u8], s: &[u8])
         out[i] = s[i];
         i += 1;
     }
+}
+
+// The n bytes from place i on, as far as the string reaches.
+pub fn part(s: &[u8], i: usize, n: usize) -> &[u8]
+    ensures { λ r. ⌜ now r ≡ partOf (now (s .entry)) i n ⌝ }
+{
+    if i > s.len() {
+        return &s[0..0];
+    }
+    if n > s.len() - i {
+        return &s[i..];
+    }
+    let e = i + n;
+    &s[i..e]
+}
+
+// Whether every byte is zero.
+pub fn all_zero(s: &[u8]) -> bool
+    ensures { λ r. ⌜ r ≡ zeros (now (s .entry)) ⌝ }
+{
+    let mut i = 0;
+    while i < s.len() {
+        if s[i] != 0 {
+            return false;
+        }
+        i += 1;
+    }
+    true
 }

@@ -6,7 +6,7 @@ use Prim.Native.Nat.{ℕ}
 use borrow.Author.Needs.{needs}
 use borrow.Author.Tests.{not-true, not-false}
 use lib.ListN.{length}
-use Rattle.keytable.specs.Tests.{all}
+use Rattle.octets.specs.Tests.{all}
 use Rattle.keytable.specs.Row.{rowOk}
 use Rattle.keytable.specs.Table.{rowPlace, headOk, rowCount, rowsOf}
 use Rattle.keytable.proofs.Accepted.{head-total}

@@ -2,7 +2,7 @@
 -- Assumes nothing.
 use borrow.Author.Needs.{needs}
 use native.Mathlib.Nat.{add-sub-cancel-left}
-use Rattle.keytable.proofs.Tests.{length-part}
+use Rattle.octets.proofs.Tests.{length-part}
 use Rattle.keytable.proofs.parts.part.Statement.{statement}
 use Rattle.keytable.proofs.parts.part.Tie as tie
 

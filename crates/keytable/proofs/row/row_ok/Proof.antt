@@ -5,7 +5,7 @@ use borrow.Author.Tests.{lt-leb}
 use native.Mathlib.Omega.{arith}
 use mathlib.Core.Path.{sym}
 use Rattle.keytable.specs.Row.{nameLength, rowOk, rowTests}
-use Rattle.keytable.proofs.Tests.{every-not}
+use Rattle.octets.proofs.Tests.{every-not}
 use Rattle.keytable.proofs.row.row_ok.Statement.{statement}
 use Rattle.keytable.proofs.row.row_ok.Tie as tie
 

@@ -6,7 +6,7 @@ use Prim.Native.Nat.{_+_, _-_, _≤_}
 use borrow.Author.Needs.{needs}
 use native.Mathlib.Omega.{arith}
 use lib.ListN.{drop}
-use Rattle.keytable.specs.Tests.{partOf}
+use Rattle.octets.specs.Tests.{partOf}
 use Rattle.keytable.specs.Row.{rowSize, nameAt, nameMax, nameLength, nameOf}
 use Rattle.keytable.specs.Table.{rowPlace, rowsOf, absent, distinct}
 use Rattle.keytable.proofs.Accepted.{name-short-at}

@@ -6,7 +6,7 @@ use borrow.Author.Needs.{needs}
 use borrow.Author.Tests.{not-true, not-false}
 use native.Mathlib.Omega.{arith}
 use lib.ListN.{drop}
-use Rattle.keytable.specs.Tests.{all}
+use Rattle.octets.specs.Tests.{all}
 use Rattle.keytable.specs.Row.{rowOk}
 use Rattle.keytable.specs.Table.{rowsOf}
 use Rattle.keytable.proofs.Accepted.{rows-stop, rows-turn, rows-end}

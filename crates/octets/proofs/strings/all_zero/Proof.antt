@@ -1,4 +1,4 @@
--- `keytable::parts::all_zero` meets its contract: what is left at i decides.
+-- `octets::strings::all_zero` meets its contract: what is left at i decides.
 -- Assumes nothing.
 use mathlib.Core.Path.{_≡_, refl, sym, _∙_}
 use Prim.Native.Nat.{_-_, _≤_}
@@ -6,10 +6,10 @@ use borrow.Author.Needs.{needs}
 use native.Mathlib.Omega.{arith}
 use borrow.Author.Tests.{eq-eqb, ne-eqb}
 use lib.ListN.{length, drop}
-use Rattle.keytable.specs.Tests.{zeros}
-use Rattle.keytable.proofs.Tests.{all-stop, all-turn, all-end}
-use Rattle.keytable.proofs.parts.all_zero.Statement.{statement}
-use Rattle.keytable.proofs.parts.all_zero.Tie as tie
+use Rattle.octets.specs.Tests.{zeros}
+use Rattle.octets.proofs.Tests.{all-stop, all-turn, all-end}
+use Rattle.octets.proofs.strings.all_zero.Statement.{statement}
+use Rattle.octets.proofs.strings.all_zero.Tie as tie
 
 abbrev Inv-loop : tie.InvT-loop
 Inv-loop s i₀ i = (i ≤ length s) × (zeros s ≡ zeros (drop i s))
