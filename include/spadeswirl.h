@@ -10,11 +10,14 @@
  *
  *    0  done
  *    1  the key table breaks its layout, or has more than 64 rows
- *    2  the length of a lent key, IV, tag or block is wrong, or a name is empty
- *    4  a maximum is passed: associated data over 4,152 bytes, text over
- *       1,048,576, or a name over 32
+ *    2  the length of a lent key, IV, tag or block is wrong, a name is empty, or
+ *       a record breaks its layout
+ *    3  a record's mode is neither 1 nor 2
+ *    4  a maximum is passed: associated data over 4,152 bytes (4,096 for a
+ *       record), text over 1,048,576, or a name over 32
  *    5  the output is shorter than the result
  *    6  no row of that name
+ *    7  the row's use is another
  *    8  a wrapped key is not 40 bytes
  *    9  the tag, or the start value of a wrapped key, is wrong
  *
@@ -115,6 +118,44 @@ uint8_t spadeswirl_table_check(const uint8_t *table, size_t table_len);
  */
 uint8_t spadeswirl_find(const uint8_t *table, size_t table_len,
                         const uint8_t *name, size_t name_len, uint64_t *use);
+
+/*
+ * A record: a header of 24 bytes, the key's name, the IV, the ciphertext and
+ * the tag; 52 + name_len + plain_len bytes in all. Its associated data is its
+ * own first 24 + name_len bytes, then the caller's, of at most 4,096.
+ *
+ * Sealing is by the row of exactly that name, whose use is the mode; the IV
+ * has 12 bytes, and the caller never uses one twice with one key. It fills the
+ * first 52 + name_len + plain_len bytes of the output. Numbers: 0; 1; 2 for an
+ * empty name or another length of IV; 4 where a maximum is passed; 5; 6 where
+ * no row has the name; 7 for the row of a key-encrypting key.
+ */
+uint8_t spadeswirl_seal(const uint8_t *table, size_t table_len,
+                        const uint8_t *name, size_t name_len,
+                        const uint8_t *iv, size_t iv_len,
+                        const uint8_t *aad, size_t aad_len,
+                        const uint8_t *plain, size_t plain_len,
+                        uint8_t *out, size_t out_len);
+
+/*
+ * Opening is by the row of the record's whole name. It fills the first *n
+ * bytes of the output and stores n, so that no caller has to believe the
+ * header; no byte is written before the tag is found right. Numbers: 0; 1; 2
+ * and 3 as below; 4 where the record or the associated data passes a maximum;
+ * 5; 6; 7 where the row's use is not the record's mode; 9. After any but 0
+ * neither the output nor *n has changed.
+ */
+uint8_t spadeswirl_open(const uint8_t *table, size_t table_len,
+                        const uint8_t *record, size_t record_len,
+                        const uint8_t *aad, size_t aad_len,
+                        uint8_t *out, size_t out_len, uint64_t *n);
+
+/*
+ * A record by itself, without table or key: 2 where its bytes break the
+ * layout, 3 for a mode that is neither 1 (CCM) nor 2 (GCM), 4 for a name over
+ * 32 bytes or a plaintext over 1,048,576; else 0.
+ */
+uint8_t spadeswirl_record_check(const uint8_t *record, size_t record_len);
 
 #ifdef __cplusplus
 }

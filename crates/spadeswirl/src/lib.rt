@@ -1,5 +1,8 @@
 // The C interface (include/spadeswirl.h): one thin exported function for each public call, with the statement of the call below it.
 pub mod block;
+pub mod ivs;
+pub mod lists;
 pub mod mode;
+pub mod sealing;
 pub mod table;
 pub mod wrap;

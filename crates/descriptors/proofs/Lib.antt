@@ -1,0 +1,11 @@
+pub mod Sizes
+pub mod Split
+pub mod Turns
+pub mod Answers
+pub mod Rising
+pub mod Steps
+pub mod Laws
+pub mod Unique
+pub mod Held
+pub mod ReaderLaws
+pub mod Whole

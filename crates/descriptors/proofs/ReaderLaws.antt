@@ -1,0 +1,91 @@
+-- The laws of specs/ReaderLaws.antt: what is proved of the cursor, over the reader's own calls.
+-- Assumes nothing.
+use mathlib.Core.Path.{_≡_, refl, sym, ap, ap₂, _∙_}
+use mathlib.Core.Bool.{Bool, true}
+use mathlib.Core.List.{List, []}
+use Prim.Native.Nat.{ℕ, zero, suc, _-_}
+use native.Mathlib.Omega.{arith}
+use lib.ListN.{length}
+use denote.Ref.{RefT, now}
+use Rattle.octets.specs.Tests.{partOf}
+use Rattle.octets.proofs.Lent.{one-answer}
+use Rattle.descriptors.specs.Parse.{Split}
+use Rattle.descriptors.specs.Tested.{listOk, unreserved, countOf}
+use Rattle.descriptors.specs.Steps.{opened, advanceOf, partShown, after}
+use Rattle.descriptors.specs.Readers.{standing, shownSays, shownOf, nextOf}
+use Rattle.descriptors.specs.ReaderLaws.{Run, ReaderCounts, ReaderShows, ReaderThenNothing, ReaderRefusedStays, OpenUnique, NextUnique, PartAtUnique, ShownFromUnique}
+use Rattle.descriptors.specs.declared.cursor.Cursor.{Cursor}
+use Rattle.descriptors.specs.declared.cursor.Advance.{Advance}
+use Rattle.descriptors.specs.declared.cursor.Begun.{Begun}
+use Rattle.descriptors.specs.declared.reader.Reader.{Reader}
+use Rattle.descriptors.specs.declared.reader.Opened.{Opened}
+use Rattle.descriptors.proofs.Split.{parse-split}
+use Rattle.descriptors.proofs.Answers.{number-ok, begun-counted}
+use Rattle.descriptors.proofs.Laws.{shows-in-order, then-nothing, refused-quiet, refused-stays}
+
+-- a reader's answer, and the reader after it
+abbrev Next : Type 0
+Next = (ℕ × List ℕ) × Reader
+
+-- one step more is one step after
+after-last : (i : ℕ) (s : List ℕ) (c : Cursor) → after (suc i) s c ≡ advanceOf s (after i s c) .next
+after-last zero s c = refl
+after-last (suc i) s c = after-last i s (advanceOf s c .next)
+
+module _ (l : RefT (List ℕ)) (label strict : Bool) (run : Run l label strict) where
+  abbrev on : Cursor → Reader
+  on c = standing l c
+
+  -- the reader held after i steps stands on the list that was lent, where the cursor stands after i steps
+  held-at : (i : ℕ) → run .held i ≡ on (after i (now l) (opened label strict))
+  held-at zero = run .first ∙ ap (λ (o : Opened). o .reader) (run .opens)
+  held-at (suc i) =
+      sym (ap (λ (n : Next). n .1) (run .steps i))
+      ∙ ap (λ (d : Reader). nextOf d .1) (held-at i)
+      ∙ ap on (sym (after-last i (now l) (opened label strict)))
+
+  shown-at : (i : ℕ) → shownSays (run .shown i) ≡ shownOf (on (after i (now l) (opened label strict)))
+  shown-at i = sym (ap (λ (n : Next). n .0) (run .steps i)) ∙ ap shownOf (held-at i)
+
+  accepted : run .opened .number ≡ 0 → listOk label strict (now l) ≡ true
+  accepted e = number-ok label strict (now l) (sym (ap (λ (o : Opened). o .number) (run .opens)) ∙ e)
+
+  module _ (ds : List (List ℕ)) where
+    pub reader-counts : ReaderCounts l label strict run ds
+    reader-counts e p =
+        ap (λ (o : Opened). o .count) (run .opens)
+        ∙ ap (λ (b : Begun). b .count) (sym (begun-counted label strict (now l) (countOf label (now l)) (accepted e) refl))
+        ∙ ap (λ (q : Split). length (unreserved label (q .0))) (parse-split (now l) ds p)
+
+    pub reader-shows : ReaderShows l label strict run ds
+    reader-shows i e p h =
+        let (number, part) = shows-in-order label strict (now l) ds i (accepted e) p h in
+        shown-at i ∙ ap₂ (λ (n : ℕ) (d : List ℕ). (n, d)) number part
+
+    pub reader-then-nothing : ReaderThenNothing l label strict run ds
+    reader-then-nothing i e p h =
+        let still = then-nothing label strict (now l) ds i (accepted e) p h in (
+          shown-at i ∙ ap (λ (a : Advance). (a .number, partShown (now l) a)) still ∙ nothing (now l) (after i (now l) (opened label strict) .at),
+          held-at (suc i) ∙ ap on (after-last i (now l) (opened label strict) ∙ ap (λ (a : Advance). a .next) still) ∙ sym (held-at i),
+        )
+      where
+        nothing : (s : List ℕ) (at : ℕ) → _≡_ {A = ℕ × List ℕ} (0, partOf s at (at - at)) (0, [])
+        nothing s at = let none : at - at ≡ 0 = omega arith in ap (λ (n : ℕ). (0, partOf s at n)) none
+
+pub reader-refused-stays : ReaderRefusedStays
+reader-refused-stays d f =
+    ap₂ (λ (l : List ℕ) (c : Cursor). ((shownOf d .0, l), record { list = d .list; place = c }))
+    (refused-quiet (now (d .list)) (d .place) f) (refused-stays (now (d .list)) (d .place) f)
+
+pub open-unique : OpenUnique
+open-unique l label strict a b p q = p ∙ sym q
+
+pub next-unique : NextUnique
+next-unique d e f a b p q =
+    let same = one-answer p q in (ap (λ (n : Next). n .0) same, ap (λ (n : Next). n .1) same)
+
+pub part-at-unique : PartAtUnique
+part-at-unique s from end a b p q = p ∙ sym q
+
+pub shown-from-unique : ShownFromUnique
+shown-from-unique l c a b p q = p ∙ sym q

@@ -1,0 +1,83 @@
+-- For each input of each call one answer, and one state of what is lent: the laws of that name of specs/Laws.antt.
+-- Assumes nothing.
+use mathlib.Core.Path.{_≡_, refl, sym, ap, _∙_}
+use mathlib.Core.Bool.{Bool}
+use mathlib.Core.List.{List, [], _∷_}
+use Prim.Native.Nat.{ℕ}
+use lib.Dec.{eqb}
+use Rattle.octets.specs.Lent.{when}
+use Rattle.octets.proofs.Lent.{one-answer}
+use Rattle.descriptors.specs.Tested.{Answer, testedSays}
+use Rattle.descriptors.specs.Steps.{stepSays}
+use Rattle.descriptors.specs.Labels.{labelSays}
+use Rattle.descriptors.specs.Laws.{TestUnique, StepUnique, BeginUnique, AdvanceUnique, LabelUnique, ListCheckUnique, ListStepUnique, LabelCheckUnique}
+use Rattle.descriptors.specs.declared.cursor.Step.{Step}
+use Rattle.descriptors.specs.declared.cursor.Step.the-variants.{One, Nothing, Broken}
+use Rattle.descriptors.specs.declared.label.Label.{Label}
+use Rattle.descriptors.specs.declared.label.Label.the-variants as L
+use Rattle.descriptors.specs.declared.list.Tested.{Tested}
+use Rattle.descriptors.specs.declared.list.Tested.the-variants.{Counted, Refused}
+
+-- what says the same is the same, where a case can be told from what it says
+same-said : {A : Type 0} (says : A → Answer) (tells : Answer → A) → ((a : A) → tells (says a) ≡ a) → {x : Answer} (a b : A) → says a ≡ x → says b ≡ x → a ≡ b
+same-said says tells back a b p q = sym (back a) ∙ ap tells (p ∙ sym q) ∙ back b
+
+abbrev tested : Answer → Tested
+tested a = of (a .1)
+  where
+    of : List ℕ → Tested
+    of [] = Refused
+    of (n ∷ ns) = Counted n
+
+tested-back : (a : Tested) → tested (testedSays a) ≡ a
+tested-back (Counted n) = refl
+tested-back Refused = refl
+
+abbrev step : Answer → Step
+step a = of (a .1)
+  where
+    of : List ℕ → Step
+    of [] = when (eqb (a .0) 0) Nothing Broken
+    of (from ∷ []) = Broken
+    of (from ∷ end ∷ l) = One from end
+
+step-back : (a : Step) → step (stepSays a) ≡ a
+step-back (One from end) = refl
+step-back Nothing = refl
+step-back Broken = refl
+
+abbrev label : Answer → Label
+label a = of (a .1)
+  where
+    of : List ℕ → Label
+    of [] = when (eqb (a .0) 2) L.Broken L.Long
+    of (n ∷ ns) = L.Counted n
+
+label-back : (a : Label) → label (labelSays a) ≡ a
+label-back (L.Counted n) = refl
+label-back L.Broken = refl
+label-back L.Long = refl
+
+pub test-unique : (l t : Bool) (s : List ℕ) → TestUnique l t s
+test-unique l t s a b p q = same-said testedSays tested tested-back a b p q
+
+pub step-unique : (l t : Bool) (s : List ℕ) (at : ℕ) → StepUnique l t s at
+step-unique l t s at a b p q = same-said stepSays step step-back a b p q
+
+pub label-unique : LabelUnique
+label-unique s a b p q = same-said labelSays label label-back a b p q
+
+pub begin-unique : (l t : Bool) (s : List ℕ) → BeginUnique l t s
+begin-unique l t s a b p q = p ∙ sym q
+
+pub advance-unique : AdvanceUnique
+advance-unique s c a b p q = p ∙ sym q
+
+pub list-check-unique : (l t : Bool) (s : List ℕ) (before : ℕ) → ListCheckUnique l t s before
+list-check-unique l t s before a b p q = one-answer p q
+
+pub list-step-unique : (l t : Bool) (s : List ℕ) (at : ℕ) (before : List ℕ) → ListStepUnique l t s at before
+list-step-unique l t s at before a b p q = one-answer p q
+
+pub label-check-unique : LabelCheckUnique
+label-check-unique s before a b p q = one-answer p q

@@ -1,0 +1,97 @@
+-- `descriptors::list::test` meets its contract: what is left at `at` decides, and what it counts is added to the count so far.
+-- Assumes nothing.
+use mathlib.Core.Path.{_≡_, refl, sym, ap, _∙_}
+use Prim.Native.Nat.{ℕ, _+_, _-_, _≤_}
+use native.Mathlib.Nat.{add-assoc, add-zero, zero-add}
+use native.Mathlib.Omega.{arith}
+use borrow.Author.Needs.{needs}
+use borrow.Author.Tests.{not-true, not-false}
+use lib.ListN.{length, drop}
+use Rattle.descriptors.specs.Parse.{split}
+use Rattle.descriptors.specs.Tested.{splitOk, listOk, unreserved, countOf}
+use Rattle.descriptors.proofs.Split.{size-in}
+use Rattle.descriptors.proofs.Turns.{test-turn, test-refused, count-turn, test-stop, test-end, count-end}
+use Rattle.descriptors.proofs.Answers.{list-refused, list-accepted}
+use Rattle.descriptors.proofs.list.test.Statement.{statement}
+use Rattle.descriptors.proofs.list.test.Tie as tie
+
+abbrev Inv-loop : tie.InvT-loop
+Inv-loop list label strict at₀ least₀ count₀ at least count =
+    (at ≤ length list)
+    × (count ≤ at)
+    × (splitOk label strict least (split (drop at list)) ≡ listOk label strict list)
+    × (count + length (unreserved label (split (drop at list) .0)) ≡ countOf label list)
+
+abbrev μ-loop : tie.MeasureT-loop
+μ-loop list label strict at₀ least₀ count₀ at least count = length list - at
+
+loop-holds : tie.Need-loop-holds Inv-loop μ-loop
+loop-holds c = (omega arith, omega arith, refl, zero-add _)
+
+returns : tie.Need-returns Inv-loop μ-loop
+returns c =
+    let at-size = c .before .before in
+    let l = at-size .before .before in
+    sym
+    (list-refused _ _ _
+    (sym (l .loop .inv .2) ∙ test-stop _ _ (at-size .before .loop-test .taken) (sym (at-size .size-at .ensures) ∙ c .if1 .taken) _ _ _))
+
+-- the descriptor at `at`: its size lies in the list
+module _ (c : tie.Else1 Inv-loop μ-loop) where
+  ended : (4 ≤ c .before .before .size-at .result) × (c .before .before .before .before .loop .at + c .before .before .size-at .result ≤ length (c .before .before .before .before .before .before .args .list .now))
+  ended = size-in _ _ _ (c .before .before .size-at .ensures) (c .if1 .left)
+
+returns-2 : tie.Need-returns-2 Inv-loop μ-loop
+returns-2 c =
+    let e = c .before .before in
+    let l = e .before .before .before .before in
+    sym
+    (list-refused _ _ _
+    (sym (l .loop .inv .2)
+    ∙ test-refused (l .before .before .args .list .now) (l .loop .at) _ _ (e .before .before .size-at .ensures) (e .if1 .left) (e .before .read8 .ensures .0) _ _ _ (sym (c .before .admitted .ensures) ∙ not-true _ (c .if2 .taken))))
+
+loop-again : tie.Need-loop-again Inv-loop μ-loop
+loop-again c =
+    let e = c .before .before .before in
+    let l = e .before .before .before .before in
+    let list = l .before .before .args .list .now in
+    let label = l .before .before .args .label in
+    let strict = l .before .before .args .strict in
+    let size = e .before .before .size-at .ensures in
+    let is = e .before .read8 .ensures .0 in
+    let left = split (drop (l .loop .at + e .before .before .size-at .result) list) in (
+      ended e .1,
+      omega (arith, ended e .0),
+      sym (test-turn list (l .loop .at) _ _ size (e .if1 .left) is label strict _ (sym (c .before .before .admitted .ensures) ∙ not-false _ (c .before .if2 .left))) ∙ l .loop .inv .2,
+      add-assoc (l .loop .count) _ _
+          ∙ ap (λ (m : ℕ). l .loop .count + m)
+          (ap (λ (m : ℕ). m + length (unreserved label (left .0))) (c .counted .ensures .0) ∙ sym (count-turn list (l .loop .at) _ _ size (e .if1 .left) is label))
+          ∙ l .loop .inv .3,
+    )
+
+returns-3 : tie.Need-returns-3 Inv-loop μ-loop
+returns-3 c =
+    let l = c .before in
+    sym
+    (list-accepted _ _ _ _ (sym (l .loop .inv .2) ∙ test-end _ _ (c .loop-test .left) _ _ _)
+    (sym (add-zero (l .loop .count)) ∙ ap (λ (m : ℕ). l .loop .count + m) (sym (count-end _ _ (c .loop-test .left) _)) ∙ l .loop .inv .3))
+
+pub test-spec : {M : Type 1} → statement M
+test-spec =
+    tie.close
+    (tie.spec
+    Inv-loop
+    μ-loop
+    loop-holds
+    (λ c κs. search needs)
+    (λ c κs. search needs)
+    returns
+    (λ c κs. search needs)
+    returns-2
+    (λ c κs. search needs)
+    (λ c. omega arith)
+    (λ c. omega arith)
+    (λ c. omega (arith, ended (c .before .before .before) .0, ended (c .before .before .before) .1))
+    (λ c. omega (arith, ended (c .before .before .before) .0, ended (c .before .before .before) .1))
+    loop-again
+    returns-3)

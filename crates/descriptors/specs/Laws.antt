@@ -1,0 +1,128 @@
+-- What descriptor lists, steps and labels promise, as statements; proofs/Laws.antt proves each.
+-- Assumes nothing.
+use mathlib.Core.Path.{_≡_}
+use mathlib.Core.Logic.{_↔_}
+use mathlib.Core.Bool.{Bool, true, false}
+use mathlib.Core.List.{List, [], _∷_, _++_, flatten}
+use mathlib.Core.Option.{some}
+use Prim.Native.Nat.{ℕ, _-_, _≤_, _<_}
+use lib.ListN.{length, getD, take}
+use Rattle.octets.specs.Tests.{all, partOf}
+use Rattle.descriptors.specs.Descriptor.{typeOf, isReserved, isDescriptor, sizeOf}
+use Rattle.descriptors.specs.Parse.{split, parse}
+use Rattle.descriptors.specs.Tested.{admits, listOk, unreserved, testedSays, listAnswer, listCheck}
+use Rattle.descriptors.specs.Steps.{stepSays, stepAnswer, opened, begunOf, advanceOf, partShown, after, listStep}
+use Rattle.descriptors.specs.Labels.{labelMax, listOf, holds, labelSays, labelAnswer, labelCheck}
+use Rattle.descriptors.specs.declared.cursor.Cursor.{Cursor}
+use Rattle.descriptors.specs.declared.cursor.Step.{Step}
+use Rattle.descriptors.specs.declared.cursor.Begun.{Begun}
+use Rattle.descriptors.specs.declared.cursor.Advance.{Advance}
+use Rattle.descriptors.specs.declared.label.Label.{Label}
+use Rattle.descriptors.specs.declared.list.Tested.{Tested}
+
+-- ---- the parse
+
+-- the descriptors of a list are those, each of them whole, whose bytes joined are the list
+abbrev pub ParsesExactly : Type 0
+ParsesExactly = (s : List ℕ) (ds : List (List ℕ)) → (parse s ≡ some ds) ↔ ((all isDescriptor ds ≡ true) × (flatten ds ≡ s))
+
+-- and of any list, those that it begins with, before bytes that begin none
+abbrev pub SplitsWhole : Type 0
+SplitsWhole = (s : List ℕ) → (flatten (split s .0) ++ split s .1 ≡ s) × (all isDescriptor (split s .0) ≡ true) × (sizeOf (split s .1) ≡ 0)
+
+-- ---- the test, and the count
+
+-- "Types strictly rise"
+abbrev pub Rises : List (List ℕ) → Type 0
+Rises ds = (i j : ℕ) → i < j → j < length ds → typeOf (getD ds i []) < typeOf (getD ds j [])
+
+pub record Accepted (label strict : Bool) (s : List ℕ) (n : ℕ) : Type 0 where
+  pub descriptors : List (List ℕ)
+  pub parsed : parse s ≡ some descriptors
+  pub rise : Rises descriptors
+  pub admitted : all (admits label strict) descriptors ≡ true
+  pub counted : n ≡ length (unreserved label descriptors)
+
+-- 0 and a count are given exactly for the lists of the layout, and the count is the number of their unreserved descriptors
+abbrev pub AcceptsExactly : Type 0
+AcceptsExactly = (label strict : Bool) (s : List ℕ) (n : ℕ) → (listAnswer label strict s ≡ (0, n ∷ [])) ↔ Accepted label strict s n
+
+-- ---- steps
+
+-- from the start of an accepted list, step number i shows unreserved descriptor number i, as the part of the list that it is
+abbrev pub ShowsInOrder : Type 0
+ShowsInOrder =
+    (label strict : Bool) (s : List ℕ) (ds : List (List ℕ)) (i : ℕ) → listOk label strict s ≡ true → parse s ≡ some ds → i < length (unreserved label ds)
+    → let a = advanceOf s (after i s (opened label strict)) in (a .number ≡ 0) × (partShown s a ≡ getD (unreserved label ds) i [])
+
+-- and every later one shows nothing, gives 0 and does not move
+abbrev pub ThenNothing : Type 0
+ThenNothing =
+    (label strict : Bool) (s : List ℕ) (ds : List (List ℕ)) (i : ℕ) → listOk label strict s ≡ true → parse s ≡ some ds → length (unreserved label ds) ≤ i
+    → let c = after i s (opened label strict) in advanceOf s c ≡ record { number = 0; from = c .at; end = c .at; next = c }
+
+-- of any list and place: "each step shows one whole descriptor, from its type byte on", that is not reserved and lies in the list at or after the place
+pub record ShownWhole (label : Bool) (s : List ℕ) (at from end : ℕ) : Type 0 where
+  pub later : at ≤ from
+  pub within : end ≤ length s
+  pub whole : isDescriptor (partOf s from (end - from)) ≡ true
+  pub allowed : isReserved label (typeOf (partOf s from (end - from))) ≡ false
+
+abbrev pub ShowsWhole : Type 0
+ShowsWhole = (label strict : Bool) (s : List ℕ) (at from end : ℕ) → stepAnswer label strict s at ≡ (0, from ∷ end ∷ []) → ShownWhole label s at from end
+
+-- a step that is refused shows nothing and does not move
+abbrev pub RefusedShowsNothing : Type 0
+RefusedShowsNothing = (s : List ℕ) (c : Cursor) → (advanceOf s c .number ≡ 0 → ⊥) → partShown s (advanceOf s c) ≡ []
+
+abbrev pub RefusedStays : Type 0
+RefusedStays = (s : List ℕ) (c : Cursor) → (advanceOf s c .number ≡ 0 → ⊥) → advanceOf s c .next ≡ c
+
+-- ---- labels
+
+pub record AcceptedLabel (s : List ℕ) (n : ℕ) : Type 0 where
+  pub zeroes : take 2 s ≡ 0 ∷ 0 ∷ []
+  pub list : Accepted true false (listOf s) n
+  pub has-00 : holds 0x00 (listOf s) ≡ true
+  pub has-01 : holds 0x01 (listOf s) ≡ true
+  pub has-03 : holds 0x03 (listOf s) ≡ true
+  pub has-04 : holds 0x04 (listOf s) ≡ true
+  pub short : length s ≤ labelMax
+
+abbrev pub AcceptsLabel : Type 0
+AcceptsLabel = (s : List ℕ) (n : ℕ) → (labelAnswer s ≡ (0, n ∷ [])) ↔ AcceptedLabel s n
+
+-- "Label of 2 zero bytes alone: 2. With four empty descriptors 00h, 01h, 03h, 04h (18 bytes): 0."
+abbrev pub fourEmpty : List ℕ
+fourEmpty =
+    0 ∷ 0 ∷ 0x00 ∷ 0 ∷ 0 ∷ 0 ∷ 0x01 ∷ 0 ∷ 0 ∷ 0 ∷ 0x03 ∷ 0 ∷ 0 ∷ 0 ∷ 0x04 ∷ 0 ∷ 0 ∷ 0 ∷ []
+
+abbrev pub LabelClaim : Type 0
+LabelClaim = (labelAnswer (0 ∷ 0 ∷ []) ≡ (2, [])) × (length fourEmpty ≡ 18) × (labelAnswer fourEmpty ≡ (0, 4 ∷ []))
+
+-- ---- for each input one answer, and one state of what is lent
+
+module _ (label strict : Bool) (s : List ℕ) where
+  abbrev pub TestUnique : Type 0
+  TestUnique = (a b : Tested) → testedSays a ≡ listAnswer label strict s → testedSays b ≡ listAnswer label strict s → a ≡ b
+
+  abbrev pub StepUnique : ℕ → Type 0
+  StepUnique at = (a b : Step) → stepSays a ≡ stepAnswer label strict s at → stepSays b ≡ stepAnswer label strict s at → a ≡ b
+
+  abbrev pub BeginUnique : Type 0
+  BeginUnique = (a b : Begun) → a ≡ begunOf s label strict → b ≡ begunOf s label strict → a ≡ b
+
+  abbrev pub ListCheckUnique : ℕ → Type 0
+  ListCheckUnique before = (a b : ℕ × ℕ) → listCheck label strict s before ≡ a → listCheck label strict s before ≡ b → a ≡ b
+
+  abbrev pub ListStepUnique : ℕ → List ℕ → Type 0
+  ListStepUnique at before = (a b : ℕ × List ℕ) → listStep label strict s at before ≡ a → listStep label strict s at before ≡ b → a ≡ b
+
+abbrev pub AdvanceUnique : Type 0
+AdvanceUnique = (s : List ℕ) (c : Cursor) (a b : Advance) → a ≡ advanceOf s c → b ≡ advanceOf s c → a ≡ b
+
+abbrev pub LabelUnique : Type 0
+LabelUnique = (s : List ℕ) (a b : Label) → labelSays a ≡ labelAnswer s → labelSays b ≡ labelAnswer s → a ≡ b
+
+abbrev pub LabelCheckUnique : Type 0
+LabelCheckUnique = (s : List ℕ) (before : ℕ) (a b : ℕ × ℕ) → labelCheck s before ≡ a → labelCheck s before ≡ b → a ≡ b

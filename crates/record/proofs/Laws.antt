@@ -1,0 +1,146 @@
+-- Demand 3 (specs/Demand3.antt) and the laws of specs/Laws.antt.
+-- Assumes nothing.
+use mathlib.Core.Path.{_≡_, refl, sym, ap, _∙_}
+use mathlib.Core.Bool.{Bool, true, false}
+use mathlib.Core.List.{List}
+use Prim.Native.Nat.{ℕ}
+use native.Mathlib.Omega.{arith}
+use borrow.Author.Tests.{eqb-true}
+use lib.Dec.{eqb}
+use lib.ListN.{length, getD}
+use Rattle.octets.specs.Lent.{when}
+use Rattle.octets.proofs.Lent.{one-answer}
+use Rattle.keytable.specs.Row.{useOf, keyOf}
+use Rattle.keytable.specs.Table.{tableOk, rowFor}
+use Rattle.record.specs.Record.{nameIn, ivIn}
+use Rattle.record.specs.Read.{headerSays}
+use Rattle.record.specs.Open.{plaintextBy, openNumber}
+use Rattle.record.specs.Demand3.{Refuses, OpensExactly, OnePlaintext, OneOpening, ElseRefuses, SealedOpens}
+use Rattle.record.specs.Laws.{HeaderThere, HeaderBack, SealOtherRows, OpenOtherRows, SealEarlier, OpenEarlier, ReadUnique, CheckUnique, SealUnique, OpenUnique}
+use Rattle.record.specs.declared.header.Header.{Header}
+use Rattle.record.specs.declared.header.Header.the-variants.{Fields, BadForm, BadMode, TooLong}
+use Rattle.record.proofs.Written.{read-back, front-back}
+use Rattle.record.proofs.Laid.{Laid}
+use Rattle.record.proofs.Sealed.{textBy, tagBy, SealedAs, seals-as, as-seals, as-laid}
+use Rattle.record.proofs.Opened.{OpenedAs, open-row, openable, open-refused, opens-as, as-opens}
+use Rattle.record.proofs.Exactly.{plaintext-back, opened-sealed, sealed-opened}
+use Rattle.record.proofs.Earlier.{seal-alike, open-alike}
+
+-- ---- demand 3
+
+pub opens-exactly : OpensExactly
+opens-exactly t r a out count p given = (
+  λ h. as-seals t (nameIn r) (ivIn r) a p r (opened-sealed t r a out p (given .bytes) (opens-as t r a out count p h)),
+  λ h. as-opens t r a out count p (sealed-opened t r a out p (given .room) (seals-as t (nameIn r) (ivIn r) a p r h)),
+)
+
+-- the plaintext that sealing by a row made r of
+undone : (t name iv a p r : List ℕ) (s : SealedAs t name iv a p r) → plaintextBy (keyOf (s .row)) r ≡ p
+undone t name iv a p r s = plaintext-back (useOf (s .row)) (keyOf (s .row)) name iv a p r (as-laid t name iv a p r s)
+
+pub one-plaintext : OnePlaintext
+one-plaintext t name iv a p p′ r h h′ =
+    sym (undone t name iv a p r s) ∙ ap (λ (row : List ℕ). plaintextBy (keyOf row) r) same-row ∙ undone t name iv a p′ r s′
+  where
+    s : SealedAs t name iv a p r
+    s = seals-as t name iv a p r h
+
+    s′ : SealedAs t name iv a p′ r
+    s′ = seals-as t name iv a p′ r h′
+
+    same-row : s .row ≡ s′ .row
+    same-row = cc (s .has-row, s′ .has-row)
+
+pub one-opening : OneOpening
+one-opening t r a out count p p′ h h′ = sym (s .is) ∙ ap (λ (row : List ℕ). plaintextBy (keyOf row) r) same-row ∙ s′ .is
+  where
+    s : OpenedAs t r a out p
+    s = opens-as t r a out count p h
+
+    s′ : OpenedAs t r a out p′
+    s′ = opens-as t r a out count p′ h′
+
+    same-row : s .row ≡ s′ .row
+    same-row = cc (s .has-row, s′ .has-row)
+
+pub else-refuses : ElseRefuses
+else-refuses t r a out count given none = go (eqb number 0) refl
+  where
+    number : ℕ
+    number = openNumber (tableOk t) (rowFor t (nameIn r)) r a (length out)
+
+    -- where the number is 0, some p is opened
+    not-zero : number ≡ 0 → ⊥
+    not-zero e =
+        let (row, has) = open-row (tableOk t) r a (length out) (rowFor t (nameIn r)) e in
+        let able = openable (tableOk t) r a (length out) row (rw has at e) in
+        let opened : OpenedAs t r a out (plaintextBy (keyOf row) r) = record { row = row; has-row = has; able = able; is = refl } in
+        none (plaintextBy (keyOf row) r) (as-seals t (nameIn r) (ivIn r) a _ r (opened-sealed t r a out _ (given .bytes) opened))
+
+    go : (b : Bool) → eqb number 0 ≡ b → Refuses t r a out count
+    go true e = absurd (not-zero (eqb-true number 0 e))
+    go false e = record { number = number; not-zero = not-zero; answers = open-refused (tableOk t) (rowFor t (nameIn r)) r a out count e }
+
+pub sealed-opens : SealedOpens
+sealed-opens t name iv a p r out count h room =
+    as-opens t r a out count p (sealed-opened t r a out p (omega (arith, read .fields .count)) by-its-fields)
+  where
+    s : SealedAs t name iv a p r
+    s = seals-as t name iv a p r h
+
+    read : Laid (useOf (s .row)) name (length p) iv (textBy (useOf (s .row)) (keyOf (s .row)) iv p) (tagBy (useOf (s .row)) (keyOf (s .row)) name iv a p) r
+    read = as-laid t name iv a p r s
+
+    by-its-fields : SealedAs t (nameIn r) (ivIn r) a p r
+    by-its-fields = rw (read .fields .name-is, read .iv-is) s
+
+-- ---- the header, there and back
+
+pub header-there : HeaderThere
+header-there u n name rest short few = read-back u n name rest short few
+
+pub header-back : HeaderBack
+header-back r bytes layout = front-back r bytes layout
+
+-- ---- other rows
+
+pub seal-other-rows : SealOtherRows
+seal-other-rows t u name iv a p out ok-t ok-u e = rw (ok-t, ok-u, e)
+
+pub open-other-rows : OpenOtherRows
+open-other-rows t u r a out count ok-t ok-u e = rw (ok-t, ok-u, e)
+
+-- ---- what an output held before
+
+pub seal-earlier : SealEarlier
+seal-earlier = seal-alike
+
+pub open-earlier : OpenEarlier
+open-earlier = open-alike
+
+-- ---- one answer
+
+-- a header is known from what it says
+headerIn : ℕ × List ℕ → Header
+headerIn x =
+    when (eqb (x .0) 0) (Fields (getD (x .1) 0 0) (getD (x .1) 1 0) (getD (x .1) 2 0))
+    (when (eqb (x .0) 2) BadForm (when (eqb (x .0) 3) BadMode TooLong))
+
+headerIn-says : (h : Header) → headerIn (headerSays h) ≡ h
+unfolding headerIn
+headerIn-says (Fields u k n) = refl
+headerIn-says BadForm = refl
+headerIn-says BadMode = refl
+headerIn-says TooLong = refl
+
+pub read-unique : ReadUnique
+read-unique r x y p q = sym (headerIn-says x) ∙ ap headerIn (p ∙ sym q) ∙ headerIn-says y
+
+pub check-unique : CheckUnique
+check-unique r x y p q = one-answer (sym p) (sym q)
+
+pub seal-unique : SealUnique
+seal-unique t name iv a p out x y = one-answer
+
+pub open-unique : OpenUnique
+open-unique t r a out count x y = one-answer

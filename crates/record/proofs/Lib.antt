@@ -1,0 +1,14 @@
+pub mod Lent
+pub mod Numbers
+pub mod Parts
+pub mod Reading
+pub mod Apart
+pub mod Written
+pub mod Filled
+pub mod Rows
+pub mod Laid
+pub mod Sealed
+pub mod Opened
+pub mod Exactly
+pub mod Earlier
+pub mod Laws

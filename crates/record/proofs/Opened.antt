@@ -1,0 +1,144 @@
+-- What the number 0 of opening tells: every test was passed, and the output's front is the plaintext of the row's key.
+-- Assumes nothing.
+use mathlib.Core.Path.{_≡_, refl, sym, ap, ap₂, _∙_}
+use mathlib.Core.Bool.{Bool, true, false, false≢true}
+use mathlib.Core.List.{List}
+use mathlib.Core.Option.{Option, some, none}
+use Prim.Native.Nat.{ℕ, _≤_}
+use native.Mathlib.Omega.{arith}
+use borrow.Author.Tests.{eqb-true, eq-eqb, ltb-false, le-ltb, not-false}
+use lib.Dec.{eqb}
+use lib.ListN.{length}
+use Rattle.octets.specs.Lent.{over}
+use Rattle.keytable.specs.Row.{nameMax, useOf, keyOf}
+use Rattle.keytable.specs.Table.{tableOk, rowFor}
+use Rattle.modes.specs.Calls.{textMax}
+use Rattle.record.specs.Record.{permitted, modeIn, countIn, nameSize, layoutOk, nameIn, ivIn, textIn}
+use Rattle.record.specs.Seal.{callersMax}
+use Rattle.record.specs.Open.{authenticBy, plaintextBy, openTests, openNumber, openRow, openAnswer}
+use Rattle.record.specs.Demand3.{Opens}
+use Rattle.record.proofs.Lent.{testAt, none-applies, over-injective}
+use Rattle.record.proofs.Parts.{length-textIn}
+use Rattle.record.proofs.Numbers.{fitting, within-maxima, maxima-kept}
+
+-- ---- the tests
+
+-- every test of opening by a row is passed
+pub record Openable (ok : Bool) (row r a : List ℕ) (room : ℕ) : Type 0 where
+  pub accepted : ok ≡ true
+  pub layout : layoutOk r ≡ true
+  pub mode : permitted (modeIn r) ≡ true
+  pub short : nameSize r ≤ nameMax
+  pub few : countIn r ≤ textMax
+  pub little : length a ≤ callersMax
+  pub fits : countIn r ≤ room
+  pub use-is : useOf row ≡ modeIn r
+  pub authentic : authenticBy (keyOf row) r a ≡ true
+
+module _ (ok : Bool) (r a : List ℕ) (room : ℕ) where
+  no-test : (row : Option (List ℕ)) (i : ℕ) → openNumber ok row r a room ≡ 0 → testAt (openTests ok row r a room) i ≡ false
+  unfolding openNumber
+  no-test row i e = none-applies (openTests ok row r a room) i refl e
+
+  pub open-row : (o : Option (List ℕ)) → openNumber ok o r a room ≡ 0 → (row : List ℕ) × (o ≡ some row)
+  open-row none e = absurd (false≢true (sym (no-test none 5 e)))
+  open-row (some row) e = (row, refl)
+
+  pub openable : (row : List ℕ) → openNumber ok (some row) r a room ≡ 0 → Openable ok row r a room
+  openable row e =
+      record {
+        accepted = not-false ok (no 0);
+        layout = not-false (layoutOk r) (no 1);
+        mode = not-false (permitted (modeIn r)) (no 2);
+        short = maxima .0;
+        few = maxima .1;
+        little = maxima .2;
+        fits = ltb-false room (countIn r) (no 4);
+        use-is = eqb-true (useOf row) (modeIn r) (not-false (eqb (useOf row) (modeIn r)) (no 6));
+        authentic = not-false (authenticBy (keyOf row) r a) (no 7);
+      }
+    where
+      no : (i : ℕ) → testAt (openTests ok (some row) r a room) i ≡ false
+      no i = no-test (some row) i e
+
+      maxima : (nameSize r ≤ nameMax) × (countIn r ≤ textMax) × (length a ≤ callersMax)
+      maxima = within-maxima (nameSize r) (countIn r) a (no 3)
+
+  pub open-passed : (row : List ℕ) → Openable ok row r a room → openNumber ok (some row) r a room ≡ 0
+  unfolding openNumber
+  open-passed row h =
+      rw (
+        h .accepted,
+        h .layout,
+        h .mode,
+        maxima-kept (nameSize r) (countIn r) a (h .short) (h .few) (h .little),
+        le-ltb room (countIn r) (h .fits),
+        eq-eqb (useOf row) (modeIn r) (h .use-is),
+        h .authentic,
+      )
+
+-- any other number changes neither the output nor the count
+pub open-refused : (ok : Bool) (row : Option (List ℕ)) (r a out : List ℕ) (count : ℕ) → eqb (openNumber ok row r a (length out)) 0 ≡ false
+    → openRow ok row r a out count ≡ ((openNumber ok row r a (length out), out), count)
+unfolding openRow
+open-refused ok row r a out count e = rw e
+
+-- ---- the plaintext is as long as the ciphertext
+
+pub length-plaintextBy : (key r : List ℕ) → layoutOk r ≡ true → length (plaintextBy key r) ≡ countIn r
+unfolding plaintextBy
+length-plaintextBy key r layout =
+    sym (fitting (modeIn r) .ciphertext-length key (ivIn r) (plaintextBy key r))
+    ∙ ap length (fitting (modeIn r) .seals key (ivIn r) (textIn r))
+    ∙ length-textIn r layout
+
+-- ---- the answer 0
+
+-- opening gives p: over its definitions
+pub record OpenedAs (t r a out p : List ℕ) : Type 0 where
+  pub row : List ℕ
+  pub has-row : rowFor t (nameIn r) ≡ some row
+  pub able : Openable (tableOk t) row r a (length out)
+  pub is : plaintextBy (keyOf row) r ≡ p
+
+module _ (t r a out : List ℕ) (count : ℕ) where
+  pub open-done : (row : List ℕ) → rowFor t (nameIn r) ≡ some row → Openable (tableOk t) row r a (length out)
+      → openAnswer t r a out count ≡ ((0, over (plaintextBy (keyOf row) r) out), countIn r)
+  unfolding openRow
+  open-done row is h = rw (is, open-passed (tableOk t) r a (length out) row h)
+
+  pub open-number : openAnswer t r a out count .0 .0 ≡ openNumber (tableOk t) (rowFor t (nameIn r)) r a (length out)
+  unfolding openRow
+  open-number = refl
+
+  pub opens-as : (p : List ℕ) → Opens t r a out count p → OpenedAs t r a out p
+  opens-as p h = record { row = row; has-row = found .1; able = able; is = is }
+    where
+      number : openNumber (tableOk t) (rowFor t (nameIn r)) r a (length out) ≡ 0
+      number = sym open-number ∙ ap (λ (x : (ℕ × List ℕ) × ℕ). x .0 .0) (h .answers)
+
+      found : (row : List ℕ) × (rowFor t (nameIn r) ≡ some row)
+      found = open-row (tableOk t) r a (length out) (rowFor t (nameIn r)) number
+
+      row : List ℕ
+      row = found .0
+
+      able : Openable (tableOk t) row r a (length out)
+      able = openable (tableOk t) r a (length out) row (rw (found .1) at number)
+
+      same : _≡_ {A = (ℕ × List ℕ) × ℕ} ((0, over (plaintextBy (keyOf row) r) out), countIn r) ((0, over p out), length p)
+      same = sym (open-done row (found .1) able) ∙ h .answers
+
+      size : countIn r ≡ length p
+      size = ap (λ (x : (ℕ × List ℕ) × ℕ). x .1) same
+
+      is : plaintextBy (keyOf row) r ≡ p
+      is =
+          over-injective (plaintextBy (keyOf row) r) p out (length-plaintextBy (keyOf row) r (able .layout) ∙ size) (omega (arith, size, able .fits))
+          (ap (λ (x : (ℕ × List ℕ) × ℕ). x .0 .1) same)
+
+  pub as-opens : (p : List ℕ) → OpenedAs t r a out p → Opens t r a out count p
+  as-opens p h = record { answers = open-done (h .row) (h .has-row) (h .able) ∙ ap₂ (λ (l : List ℕ) (n : ℕ). ((0, over l out), n)) (h .is) size }
+    where
+      size : countIn r ≡ length p
+      size = sym (length-plaintextBy (keyOf (h .row)) r (h .able .layout)) ∙ ap length (h .is)

@@ -1,0 +1,103 @@
+-- Reading a record by itself: each answer by the tests that led there, and what the fields that were read say of the record.
+-- Assumes nothing.
+use mathlib.Core.Path.{_≡_, refl, sym, ap, _∙_}
+use mathlib.Core.Bool.{Bool, true, false, not, false≢true}
+use mathlib.Core.List.{List, [], _∷_}
+use mathlib.Core.Option.{Option}
+use Prim.Native.Nat.{ℕ, _≤_}
+use native.Mathlib.Omega.{arith}
+use borrow.Author.Tests.{ltb-false}
+use lib.Dec.{ltb}
+use lib.ListN.{getD}
+use Rattle.octets.specs.Lent.{lowest}
+use Rattle.octets.proofs.Tests.{or-left, or-right}
+use Rattle.keytable.specs.Row.{nameMax}
+use Rattle.modes.specs.Calls.{textMax}
+use Rattle.record.specs.Record.{permitted, modeIn, countIn, nameSize, layoutOk}
+use Rattle.record.specs.Read.{passes, readNumber, headerSays, readAnswer}
+use Rattle.record.specs.Open.{openRow}
+use Rattle.record.proofs.Numbers.{open-two, open-three, open-four}
+use Rattle.record.specs.declared.header.Header.{Header}
+
+module _ (r : List ℕ) where
+  pub read-two : layoutOk r ≡ false → readAnswer r ≡ (2, [])
+  unfolding readAnswer readNumber
+  read-two e = rw e
+
+  pub read-three : layoutOk r ≡ true → permitted (modeIn r) ≡ false → readAnswer r ≡ (3, [])
+  unfolding readAnswer readNumber
+  read-three e f = rw (e, f)
+
+  pub read-four : layoutOk r ≡ true → permitted (modeIn r) ≡ true → passes (nameSize r) (countIn r) ≡ true → readAnswer r ≡ (4, [])
+  unfolding readAnswer readNumber
+  read-four e f g = rw (e, f, g)
+
+  pub read-zero : layoutOk r ≡ true → permitted (modeIn r) ≡ true → passes (nameSize r) (countIn r) ≡ false
+      → readAnswer r ≡ (0, modeIn r ∷ nameSize r ∷ countIn r ∷ [])
+  unfolding readAnswer readNumber
+  read-zero e f g = rw (e, f, g)
+
+  pub read-number : (h : Header) → headerSays h ≡ readAnswer r → headerSays h .0 ≡ readNumber r
+  unfolding readAnswer
+  read-number h e = ap (λ (x : ℕ × List ℕ). x .0) e
+
+-- every test passed: the fields are the record's own
+pub record Accepted (r : List ℕ) (u k n : ℕ) : Type 0 where
+  pub layout : layoutOk r ≡ true
+  pub mode-ok : permitted (modeIn r) ≡ true
+  pub short : passes (nameSize r) (countIn r) ≡ false
+  pub mode-is : u ≡ modeIn r
+  pub size-is : k ≡ nameSize r
+  pub count-is : n ≡ countIn r
+
+-- which of four lists an answer has
+pick-test : (x y z : Bool) → lowest ((2, not x) ∷ (3, not y) ∷ (4, z) ∷ []) ≡ 0 → (x ≡ true) × (y ≡ true) × (z ≡ false)
+pick-test false y z e = absurd (omega arith)
+pick-test true false z e = absurd (omega arith)
+pick-test true true true e = absurd (omega arith)
+pick-test true true false e = (refl, refl, refl)
+
+pub accepted : (r : List ℕ) (u k n : ℕ) → _≡_ {A = ℕ × List ℕ} (0, u ∷ k ∷ n ∷ []) (readAnswer r) → Accepted r u k n
+unfolding readAnswer readNumber
+accepted r u k n e =
+    record {
+      layout = passed .0;
+      mode-ok = passed .1;
+      short = passed .2;
+      mode-is = ap (λ (x : ℕ × List ℕ). getD (x .1) 0 0) whole;
+      size-is = ap (λ (x : ℕ × List ℕ). getD (x .1) 1 0) whole;
+      count-is = ap (λ (x : ℕ × List ℕ). getD (x .1) 2 0) whole;
+    }
+  where
+    passed : (layoutOk r ≡ true) × (permitted (modeIn r) ≡ true) × (passes (nameSize r) (countIn r) ≡ false)
+    passed = pick-test (layoutOk r) (permitted (modeIn r)) (passes (nameSize r) (countIn r)) (sym (ap (λ (x : ℕ × List ℕ). x .0) e))
+
+    whole : _≡_ {A = ℕ × List ℕ} (0, u ∷ k ∷ n ∷ []) (0, modeIn r ∷ nameSize r ∷ countIn r ∷ [])
+    whole = e ∙ read-zero r (passed .0) (passed .1) (passed .2)
+
+-- the maxima of an accepted record
+module _ (r : List ℕ) where
+  pub name-short : passes (nameSize r) (countIn r) ≡ false → nameSize r ≤ nameMax
+  name-short e = ltb-false nameMax (nameSize r) (or-left (ltb nameMax (nameSize r)) (ltb textMax (countIn r)) e)
+
+  pub count-small : passes (nameSize r) (countIn r) ≡ false → countIn r ≤ textMax
+  count-small e = ltb-false textMax (countIn r) (or-right (ltb nameMax (nameSize r)) (ltb textMax (countIn r)) e)
+
+-- ---- a record that reading refuses, opened
+
+pub open-unread : (row : Option (List ℕ)) (r a out : List ℕ) (count : ℕ) (h : Header) → headerSays h ≡ readAnswer r → (headerSays h .0 ≡ 0 → ⊥)
+    → openRow true row r a out count ≡ ((headerSays h .0, out), count)
+unfolding readNumber
+open-unread row r a out count h e never = go (layoutOk r) (permitted (modeIn r)) (passes (nameSize r) (countIn r)) refl refl refl
+  where
+    number : (n : ℕ) → readNumber r ≡ n → headerSays h .0 ≡ n
+    number n is = read-number r h e ∙ is
+
+    told : (n : ℕ) → readNumber r ≡ n → openRow true row r a out count ≡ ((n, out), count) → openRow true row r a out count ≡ ((headerSays h .0, out), count)
+    told n is o = o ∙ ap (λ (k : ℕ). ((k, out), count)) (sym (number n is))
+
+    go : (x y z : Bool) → layoutOk r ≡ x → permitted (modeIn r) ≡ y → passes (nameSize r) (countIn r) ≡ z → openRow true row r a out count ≡ ((headerSays h .0, out), count)
+    go false y z ex ey ez = told 2 (rw ex) (open-two true row r a out count refl ex)
+    go true false z ex ey ez = told 3 (rw (ex, ey)) (open-three true row r a out count refl ex ey)
+    go true true true ex ey ez = told 4 (rw (ex, ey, ez)) (open-four true row r a out count refl ex ey (rw ez))
+    go true true false ex ey ez = absurd (never (number 0 (rw (ex, ey, ez))))

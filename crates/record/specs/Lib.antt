@@ -1,0 +1,6 @@
+pub mod Record
+pub mod Read
+pub mod Seal
+pub mod Open
+pub mod Demand3
+pub mod Laws

@@ -1,0 +1,53 @@
+-- Opening (document 01, "Record"): the row of the record's own name, by its whole; "opening fills the first n". The count n is answered too.
+-- Assumes nothing.
+use Prim.Native.Nat.{ℕ}
+use mathlib.Core.Bool.{Bool, false, not, _||_}
+use mathlib.Core.List.{List, [], _∷_, _++_}
+use mathlib.Core.Option.{Option, some, none}
+use lib.ListN.{length}
+use lib.Dec.{eqb, ltb}
+use Rattle.octets.specs.Lent.{when, lowest, answer}
+use Rattle.keytable.specs.Row.{keyOf}
+use Rattle.keytable.specs.Table.{tableOk, rowFor}
+use Rattle.keytable.specs.Calls.{missing, useIn}
+use Rattle.record.specs.Record.{permitted, modeFor, modeIn, countIn, nameSize, layoutOk, frontIn, nameIn, ivIn, textIn, tagIn}
+use Rattle.record.specs.Read.{passes}
+use Rattle.record.specs.Seal.{callersMax}
+
+-- whether the tag is right by a key, and the plaintext
+unfoldable pub authenticBy : List ℕ → List ℕ → List ℕ → Bool
+authenticBy key r a = modeFor r .authentic key (ivIn r) (frontIn r ++ a) (textIn r) (tagIn r)
+
+unfoldable pub plaintextBy : List ℕ → List ℕ → List ℕ
+plaintextBy key r = modeFor r .plaintext key (ivIn r) (textIn r)
+
+abbrev pub authenticIn : Option (List ℕ) → List ℕ → List ℕ → Bool
+authenticIn none r a = false
+authenticIn (some row) r a = authenticBy (keyOf row) r a
+
+abbrev pub plaintextIn : Option (List ℕ) → List ℕ → List ℕ
+plaintextIn none r = []
+plaintextIn (some row) r = plaintextBy (keyOf row) r
+
+abbrev pub openTests : Bool → Option (List ℕ) → List ℕ → List ℕ → ℕ → List (ℕ × Bool)
+openTests ok row r a room =
+    (1, not ok)
+    ∷ (2, not (layoutOk r))
+    ∷ (3, not (permitted (modeIn r)))
+    ∷ (4, passes (nameSize r) (countIn r) || ltb callersMax (length a))
+    ∷ (5, ltb room (countIn r))
+    ∷ (6, missing row)
+    ∷ (7, not (eqb (useIn row) (modeIn r)))
+    ∷ (9, not (authenticIn row r a))
+    ∷ []
+
+unfoldable pub openNumber : Bool → Option (List ℕ) → List ℕ → List ℕ → ℕ → ℕ
+openNumber ok row r a room = lowest (openTests ok row r a room)
+
+-- the number and the output; and the count, which is lent and changed by 0 alone
+unfoldable pub openRow : Bool → Option (List ℕ) → List ℕ → List ℕ → List ℕ → ℕ → (ℕ × List ℕ) × ℕ
+openRow ok row r a out count =
+    (answer (openNumber ok row r a (length out)) (plaintextIn row r) out, when (eqb (openNumber ok row r a (length out)) 0) (countIn r) count)
+
+abbrev pub openAnswer : List ℕ → List ℕ → List ℕ → List ℕ → ℕ → (ℕ × List ℕ) × ℕ
+openAnswer t r a out count = openRow (tableOk t) (rowFor t (nameIn r)) r a out count

@@ -1,0 +1,173 @@
+// A record's header, read and written. Sums are made in 64 bits, so that no count makes them come round.
+use crate::mode::is_permitted;
+use crate::sizes::IV_SIZE;
+use crate::sizes::NAME_AT;
+use crate::sizes::NAME_MAX;
+use crate::sizes::RECORD_FORMAT;
+use crate::sizes::TAG_SIZE;
+use crate::sizes::TEXT_MAX;
+use octets::big_endian::read8;
+use octets::big_endian::read16;
+use octets::big_endian::read32;
+use octets::strings::put;
+ghost use mathlib.Core.Path.{_≡_};
+ghost use mathlib.Core.List.{_++_};
+ghost use Prim.Native.Nat.{_+_, _≤_, _<_};
+ghost use lib.ListN.{length, replicate};
+ghost use Rattle.octets.specs.Lent.{over};
+ghost use Rattle.keytable.specs.Row.{nameMax};
+ghost use Rattle.modes.specs.Calls.{textMax};
+ghost use Rattle.record.specs.Record.{modeIn, layoutOk, header, front};
+ghost use Rattle.record.specs.Read.{passes, headerSays, readNumber, readAnswer};
+
+// What reading a record's header finds.
+pub enum Header {
+    Fields { mode: u8, k: usize, n: usize },
+    BadForm,
+    BadMode,
+    TooLong,
+}
+
+// The record's mode, 0 where there is no such byte.
+fn mode_in(r: &[u8]) -> u8
+    ensures { λ u. ⌜ u ≡ modeIn (now (r .entry)) ⌝ }
+{
+    if r.len() < 3 {
+        return 0;
+    }
+    r[2]
+}
+
+// The place of the tag, n bytes after that of the ciphertext: a 32-bit sum would come round where n is FFFFFFFFh.
+fn tag_place(text: usize, n: usize) -> usize
+    requires { ⌜ (text ≤ 65571) × (n < 4294967296) ⌝ }
+    ensures { λ r. ⌜ (r ≡ text + n) × (r < 4295032867) ⌝ }
+{
+    text + n
+}
+
+// Whether the header's words and the record's end keep to the layout.
+fn layout_ok(r: &[u8]) -> bool
+    ensures { λ ok. ⌜ ok ≡ layoutOk (now (r .entry)) ⌝ }
+{
+    let n = read32(r, 4);
+    let k = read16(r, 10);
+    let iv_at = NAME_AT + k;
+    let text_at = iv_at + IV_SIZE;
+    let tag_at = tag_place(text_at, n);
+    (read16(r, 0) == RECORD_FORMAT)
+        & (read8(r, 3) == 0)
+        & (read16(r, 8) == NAME_AT)
+        & (1 <= k)
+        & (read16(r, 12) == iv_at)
+        & (read16(r, 14) == IV_SIZE)
+        & (read32(r, 16) == text_at)
+        & (read32(r, 20) == tag_at)
+        & (r.len() == tag_at + TAG_SIZE)
+}
+
+// Whether a name's length or a plaintext's count passes its maximum.
+pub(crate) fn passes_maximum(k: usize, n: usize) -> bool
+    ensures { λ b. ⌜ b ≡ passes k n ⌝ }
+{
+    (NAME_MAX < k) | (TEXT_MAX < n)
+}
+
+// Reads a record's header.
+pub fn read(r: &[u8]) -> Header
+    ensures { λ h. ⌜ headerSays h ≡ readAnswer (now (r .entry)) ⌝ }
+{
+    if !layout_ok(r) {
+        return Header::BadForm;
+    }
+    let mode = mode_in(r);
+    if !is_permitted(mode) {
+        return Header::BadMode;
+    }
+    let k = read16(r, 10);
+    let n = read32(r, 4);
+    if passes_maximum(k, n) {
+        return Header::TooLong;
+    }
+    Header::Fields { mode, k, n }
+}
+
+// The number of a header that was read: 0, 2, 3 or 4.
+pub(crate) fn number_of(h: Header) -> u8
+    ensures { λ r. ⌜ r ≡ headerSays h .0 ⌝ }
+{
+    match h {
+        Header::Fields {
+            mode: _,
+            k: _,
+            n: _,
+        } => 0,
+        Header::BadForm => 2,
+        Header::BadMode => 3,
+        Header::TooLong => 4,
+    }
+}
+
+// The record by itself: 0, or 2, 3 or 4.
+pub fn check(r: &[u8]) -> u8
+    ensures { λ n. ⌜ n ≡ readNumber (now (r .entry)) ⌝ }
+{
+    number_of(read(r))
+}
+
+// The 24 bytes of a header.
+fn header_of(u: u8, k: usize, n: usize) -> [u8; 24]
+    requires { ⌜ (k ≤ nameMax) × (n ≤ textMax) ⌝ }
+    ensures { λ r. ⌜ r ≡ header u k n ⌝ }
+{
+    let iv_at = NAME_AT + k;
+    let text_at = iv_at + IV_SIZE;
+    let tag_at = text_at + n;
+    [
+        0,
+        1,
+        u,
+        0,
+        (n / 16777216 % 256) as u8,
+        (n / 65536 % 256) as u8,
+        (n / 256 % 256) as u8,
+        (n % 256) as u8,
+        0,
+        24,
+        (k / 256 % 256) as u8,
+        (k % 256) as u8,
+        (iv_at / 256 % 256) as u8,
+        (iv_at % 256) as u8,
+        0,
+        12,
+        (text_at / 16777216 % 256) as u8,
+        (text_at / 65536 % 256) as u8,
+        (text_at / 256 % 256) as u8,
+        (text_at % 256) as u8,
+        (tag_at / 16777216 % 256) as u8,
+        (tag_at / 65536 % 256) as u8,
+        (tag_at / 256 % 256) as u8,
+        (tag_at % 256) as u8,
+    ]
+}
+
+// Writes one string and then another over the front of the output.
+pub(crate) fn put_both(first: &[u8], second: &[u8], out: &mut [u8])
+    requires { ⌜ length (now first) + length (now second) ≤ length (now out) ⌝ }
+    ensures { λ _. ⌜ now (out .exit) ≡ over (now (first .entry) ++ now (second .entry)) (now (out .entry)) ⌝ }
+{
+    let middle = first.len();
+    put(out, first);
+    put(&mut out[middle..], second);
+}
+
+// What a record has before its IV, and zeros after it.
+pub(crate) fn front_of(u: u8, name: &[u8], n: usize) -> [u8; 56]
+    requires { ⌜ (length (now name) ≤ nameMax) × (n ≤ textMax) ⌝ }
+    ensures { λ r. ⌜ r ≡ over (front u (now (name .entry)) n) (replicate 56 0) ⌝ }
+{
+    let mut room = [0u8; 56];
+    let h = header_of(u, name.len(), n);
+    put_both(&h, name, &mut room);
+    room
+}

@@ -1,0 +1,6 @@
+// The records of document 01: a record's check by itself, sealing and opening. specs/Record.antt has the layout.
+pub mod header;
+mod mode;
+pub mod opening;
+pub mod sealing;
+mod sizes;

@@ -1,0 +1,123 @@
+-- What a session promises, as statements; proofs/Laws.antt proves each.
+-- Assumes nothing.
+use mathlib.Core.Path.{_≡_}
+use mathlib.Core.Bool.{false}
+use mathlib.Core.List.{List, [], _∷_, _++_}
+use Prim.Native.Nat.{ℕ, zero, suc, _+_, _-_, _^_, _≤_, _<_}
+use lib.ListN.{length, take, drop, replicate}
+use Rattle.octets.specs.BigEndian.{be}
+use Rattle.session.specs.Iv.{prefixSize, fieldSize, ivSize, withFields, started, isSpent, ivOf}
+use Rattle.session.specs.Calls.{Answer, sessionAfter, advanceAnswer, issueAnswer}
+use Rattle.session.specs.declared.Session.{Session}
+use Rattle.session.specs.declared.Issued.{Issued}
+
+-- ---- any calls on one session, one after another
+
+-- before i is the session before call number i, from 0, and number i what that call gives: 0 only to a session that is not spent, and 0 alone advances it
+pub record Run (before : ℕ → Session) (number : ℕ → ℕ) : Type 0 where
+  pub moves : (i : ℕ) → before (suc i) ≡ sessionAfter (number i) (before i)
+  pub live : (i : ℕ) → number i ≡ 0 → isSpent (before i) ≡ false
+
+-- "So one session's IVs all differ", whatever was refused between them
+abbrev pub RunDiffers : Type 0
+RunDiffers =
+    (before : ℕ → Session) (number : ℕ → ℕ) → Run before number → before 0 .next < 2 ^ 64
+    → (i j : ℕ) → number i ≡ 0 → number j ≡ 0 → ivOf (before i) ≡ ivOf (before j) → i ≡ j
+
+-- ---- issues by value, one after another
+
+-- the session after i issues
+abbrev pub advanced : Session → ℕ → Session
+advanced s zero = s
+advanced s (suc i) = advanceAnswer (advanced s i) .2
+
+-- "Issue number i, from 0, gives the prefix then s+i, while s+i is below 2^64"
+abbrev pub AdvanceGives : Type 0
+AdvanceGives =
+    (prefix : List ℕ) (start i : ℕ) → start + i < 2 ^ 64
+    → advanceAnswer (advanced (started prefix start) i) ≡ (0, prefix ++ be fieldSize (start + i), advanced (started prefix start) (suc i))
+
+-- "later calls give 10 and change nothing"
+abbrev pub AdvanceEnds : Type 0
+AdvanceEnds =
+    (prefix : List ℕ) (start i : ℕ) → start < 2 ^ 64 → 2 ^ 64 ≤ start + i
+    → advanceAnswer (advanced (started prefix start) i) ≡ (10, replicate ivSize 0, advanced (started prefix start) i)
+
+abbrev pub AdvancesDiffer : Type 0
+AdvancesDiffer =
+    (prefix : List ℕ) (start i j : ℕ) → start < 2 ^ 64
+    → advanceAnswer (advanced (started prefix start) i) .0 ≡ 0 → advanceAnswer (advanced (started prefix start) j) .0 ≡ 0
+    → advanceAnswer (advanced (started prefix start) i) .1 ≡ advanceAnswer (advanced (started prefix start) j) .1 → i ≡ j
+
+-- ---- issues where the caller holds the session, one after another: outs i is what is lent to call number i
+
+-- the session before call number i, and that call
+abbrev pub held : (ℕ → List ℕ) → Session → ℕ → Session
+held outs s zero = s
+held outs s (suc i) = issueAnswer (held outs s i) (outs i) .2
+
+abbrev pub call : (ℕ → List ℕ) → Session → ℕ → Answer
+call outs s i = issueAnswer (held outs s i) (outs i)
+
+abbrev pub IssueGives : Type 0
+IssueGives =
+    (prefix : List ℕ) (start : ℕ) (outs : ℕ → List ℕ) (i : ℕ) → length prefix ≡ prefixSize → ((j : ℕ) → ivSize ≤ length (outs j))
+    → start + i < 2 ^ 64
+    → call outs (started prefix start) i ≡ (0, prefix ++ be fieldSize (start + i) ++ drop ivSize (outs i), held outs (started prefix start) (suc i))
+
+abbrev pub IssueEnds : Type 0
+IssueEnds =
+    (prefix : List ℕ) (start : ℕ) (outs : ℕ → List ℕ) (i : ℕ) → ((j : ℕ) → ivSize ≤ length (outs j)) → start < 2 ^ 64 → 2 ^ 64 ≤ start + i
+    → call outs (started prefix start) i ≡ (10, outs i, held outs (started prefix start) i)
+
+-- whatever is lent: calls that are refused for want of room may lie between them
+abbrev pub IssuesDiffer : Type 0
+IssuesDiffer =
+    (prefix : List ℕ) (start : ℕ) (outs : ℕ → List ℕ) (i j : ℕ) → length prefix ≡ prefixSize → start < 2 ^ 64
+    → call outs (started prefix start) i .0 ≡ 0 → call outs (started prefix start) j .0 ≡ 0
+    → take ivSize (call outs (started prefix start) i .1) ≡ take ivSize (call outs (started prefix start) j .1) → i ≡ j
+
+-- "After any but 0, each lent buffer and session is unchanged"
+abbrev pub IssueRefused : Type 0
+IssueRefused = (s : Session) (out : List ℕ) → (issueAnswer s out .0 ≡ 0 → ⊥) → issueAnswer s out ≡ (issueAnswer s out .0, out, s)
+
+-- any value of the third field but 0 is spent, whatever the next number
+abbrev pub SpentGives : Type 0
+SpentGives =
+    (prefix out : List ℕ) (next spent : ℕ) → (spent ≡ 0 → ⊥) → ivSize ≤ length out
+    → issueAnswer (withFields prefix next spent) out ≡ (10, out, withFields prefix next spent)
+
+-- ---- "Session start 2^64-2: two IVs, then 10"
+
+abbrev pub nearEnd : List ℕ → Session
+nearEnd prefix = started prefix (2 ^ 64 - 2)
+
+abbrev pub lastBut : ℕ → List ℕ
+lastBut b = 0xff ∷ 0xff ∷ 0xff ∷ 0xff ∷ 0xff ∷ 0xff ∷ 0xff ∷ b ∷ []
+
+abbrev pub LastTwo : Type 0
+LastTwo =
+    (prefix : List ℕ)
+    → (advanceAnswer (nearEnd prefix) ≡ (0, prefix ++ lastBut 0xfe, advanced (nearEnd prefix) 1))
+    × (advanceAnswer (advanced (nearEnd prefix) 1) ≡ (0, prefix ++ lastBut 0xff, advanced (nearEnd prefix) 2))
+    × (advanceAnswer (advanced (nearEnd prefix) 2) ≡ (10, replicate ivSize 0, advanced (nearEnd prefix) 2))
+
+-- the same where the caller holds it
+abbrev pub LastTwoHeld : Type 0
+LastTwoHeld =
+    (prefix a b c : List ℕ) → length prefix ≡ prefixSize → length a ≡ ivSize → length b ≡ ivSize → length c ≡ ivSize
+    → (issueAnswer (nearEnd prefix) a ≡ (0, prefix ++ lastBut 0xfe, advanced (nearEnd prefix) 1))
+    × (issueAnswer (advanced (nearEnd prefix) 1) b ≡ (0, prefix ++ lastBut 0xff, advanced (nearEnd prefix) 2))
+    × (issueAnswer (advanced (nearEnd prefix) 2) c ≡ (10, c, advanced (nearEnd prefix) 2))
+
+-- ---- for each input one answer, and one state of what is lent
+
+abbrev pub StartUnique : Type 0
+StartUnique = (prefix : List ℕ) (start : ℕ) (a b : Session) → a ≡ started prefix start → b ≡ started prefix start → a ≡ b
+
+abbrev pub AdvanceUnique : Type 0
+AdvanceUnique =
+    (s : Session) (a b : Issued) → advanceAnswer s ≡ (a .number, a .iv, a .session) → advanceAnswer s ≡ (b .number, b .iv, b .session) → a ≡ b
+
+abbrev pub IssueUnique : Type 0
+IssueUnique = (s : Session) (out : List ℕ) (a b : Answer) → issueAnswer s out ≡ a → issueAnswer s out ≡ b → a ≡ b

@@ -1,0 +1,3 @@
+pub mod Iv
+pub mod Calls
+pub mod Laws

@@ -1,0 +1,21 @@
+// The IV session, where the caller holds it.
+use session::Session;
+ghost use mathlib.Core.Path.{_≡_};
+ghost use Rattle.octets.specs.BigEndian.{be};
+ghost use Rattle.session.specs.Iv.{prefixSize};
+ghost use Rattle.session.specs.Calls.{startAnswer, issueAnswer};
+
+#[no_mangle]
+pub extern "C" fn spadeswirl_session_start(s: &mut Session, prefix: u32, first: u64) -> u8
+    ensures { λ r. ⌜ startAnswer (be prefixSize prefix) first ≡ (r, now (s .exit)) ⌝ }
+{
+    *s = session::start_numbered(prefix, first);
+    0
+}
+
+#[no_mangle]
+pub extern "C" fn spadeswirl_session_issue(s: &mut Session, out: &mut [u8]) -> u8
+    ensures { λ r. ⌜ issueAnswer (now (s .entry)) (now (out .entry)) ≡ (r, now (out .exit), now (s .exit)) ⌝ }
+{
+    session::issue(s, out)
+}
