@@ -11,10 +11,10 @@
  *    0  done
  *    1  the key table breaks its layout, or has more than 64 rows
  *    2  the length of a lent key, IV, tag or block is wrong, a name is empty, or
- *       a record breaks its layout
+ *       a record, a list or a label breaks its layout
  *    3  a record's mode is neither 1 nor 2
  *    4  a maximum is passed: associated data over 4,152 bytes (4,096 for a
- *       record), text over 1,048,576, or a name over 32
+ *       record), text over 1,048,576, a name over 32, or a label over 4,096
  *    5  the output is shorter than the result
  *    6  no row of that name
  *    7  the row's use is another
@@ -156,6 +156,35 @@ uint8_t spadeswirl_open(const uint8_t *table, size_t table_len,
  * 32 bytes or a plaintext over 1,048,576; else 0.
  */
 uint8_t spadeswirl_record_check(const uint8_t *record, size_t record_len);
+
+/*
+ * A descriptor list, of a page or (label not 0) of a label: type, a zero byte,
+ * a two-byte length, and that many bytes, one after the other with rising
+ * types. 2 where it is none, or strict is not 0 and a type is reserved (on a
+ * page 04h to BFh, on a label 05h to BFh); else 0, with the number of
+ * descriptors that are not reserved stored. A list has no maximum.
+ */
+uint8_t spadeswirl_list_check(const uint8_t *list, size_t list_len,
+                              uint8_t label, uint8_t strict, uint64_t *count);
+
+/*
+ * A step along a list from a place: 0, with the start and the end stored of
+ * the first descriptor there or after that is not reserved, from its type byte
+ * on; the next step goes from its end. Where none is left both are the place.
+ * 2, with nothing stored, where the place lies past the end or a step meets
+ * bytes that are no whole descriptor, or a reserved one with strict not 0.
+ */
+uint8_t spadeswirl_list_step(const uint8_t *list, size_t list_len,
+                             uint8_t label, uint8_t strict, uint64_t place,
+                             uint64_t shown[2]);
+
+/*
+ * A label: two zero bytes, then a list with types 00h, 01h, 03h and 04h
+ * present, else 2; at most 4,096 bytes, else 4. 0 with the number of its
+ * descriptors that are not reserved stored.
+ */
+uint8_t spadeswirl_label_check(const uint8_t *label, size_t label_len,
+                               uint64_t *count);
 
 #ifdef __cplusplus
 }
