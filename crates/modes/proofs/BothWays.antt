@@ -29,8 +29,8 @@ pub record Fitting (m : Mode) : Type 0 where
       → (m .authentic key iv a c t ≡ true) ↔ (m .tag key iv a (m .plaintext key iv c) ≡ t)
 
 -- a test that is `same` of two strings
-pub same-exactly : (r : Bool) (s t : List ℕ) → r ≡ same s t → (r ≡ true) ↔ (s ≡ t)
-same-exactly r s t e = (λ h. same-equal s t (sym e ∙ h), λ h. e ∙ ap (λ (l : List ℕ). same l t) h ∙ same-refl t)
+pub same-exactly : (r : Bool) (s t : List ℕ) → r ≡ same s t → (r ≡ true) ↔ (t ≡ s)
+same-exactly r s t e = (λ h. sym (same-equal s t (sym e ∙ h)), λ h. e ∙ ap (same s) h ∙ same-refl s)
 
 -- ---- strings
 

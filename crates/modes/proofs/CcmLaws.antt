@@ -16,7 +16,7 @@ ccm-fitting =
       tag-length = λ key iv a p. length-tagOf (cipher (schedule key)) (cipher-length (schedule key)) iv a p;
       opens = λ key iv p. text-text (cipher (schedule key)) (cipher-length (schedule key)) iv p;
       seals = λ key iv c. text-text (cipher (schedule key)) (cipher-length (schedule key)) iv c;
-      authentic-exactly = λ key iv a c t size. same-exactly _ _ t (tagRight-same (cipher (schedule key)) (cipher-length (schedule key)) iv a c t size);
+      authentic-exactly = λ key iv a c t size. same-exactly _ t _ (tagRight-same (cipher (schedule key)) (cipher-length (schedule key)) iv a c t size);
     }
 
 pub ccm-lawful : Lawful ccm

@@ -7,7 +7,7 @@ use Prim.Native.Nat.{ℕ, suc, _+_, _-_, _/_, _%_, _≤_}
 use native.Mathlib.Nat.{div-one}
 use native.Mathlib.Omega.{arith}
 use borrow.Author.Tests.{eq-eqb, ne-eqb}
-use lib.Dec.{eqb, lit<}
+use lib.Dec.{eqb, lit<, lit≤}
 use lib.ListN.{length, getD, take, drop, length-append}
 use lib.Seq.{take-at}
 use Rattle.octets.specs.Values.{values}
@@ -22,7 +22,7 @@ use Rattle.octets.proofs.Xor.{length-xors, xors-cancel}
 use Rattle.octets.proofs.Same.{same-equal, same-refl, same-differ}
 use Rattle.octets.proofs.Blocks.{cut-next, chain-append, length-chain}
 use Rattle.octets.proofs.Running.{absorb-append, close-chain}
-use Rattle.modes.specs.Counter.{counterBlock, counterAnswer, frontOf}
+use Rattle.modes.specs.Counter.{counterBlock, ctr, counterAnswer, frontOf}
 use Rattle.modes.specs.Ccm.{flags, firstBlock, dataBlocks, mac, front, firstPad, text, tagOf, tagRight}
 use Rattle.modes.specs.Calls.{textMax}
 use Rattle.modes.proofs.Limits.{counterFits-three, counterAnswer-fits}
@@ -94,6 +94,11 @@ module _ (f : List ℕ → List ℕ) (size : (x : List ℕ) → length (f x) ≡
   unfolding text
   text-text s = ctr-ctr f size 3 (front iv) 1 s
 
+  -- from the counter blocks' front as the code has it
+  pub text-counted : (s base : List ℕ) → length iv ≡ 12 → base ≡ front iv ++ be 3 0 → text f iv s ≡ ctr f 3 (frontOf false base) 1 s
+  unfolding text
+  text-counted s base h eb = ap (λ (l : List ℕ). ctr f 3 l 1 s) (sym (ap (frontOf false) eb ∙ front-base iv h))
+
 -- as the counter routine writes it
 pub counter-text : (f : List ℕ → List ℕ) (iv s base out : List ℕ) (x : ℕ × List ℕ) → length iv ≡ 12 → length s ≤ textMax → base ≡ front iv ++ be 3 0
     → counterAnswer f 3 (frontOf false base) 1 s out ≡ x → (0, over (text f iv s) out) ≡ x
@@ -101,18 +106,18 @@ unfolding text
 counter-text f iv s base out x size short eb e =
     sym
     (ap (λ (l : List ℕ). counterAnswer f 3 l 1 s out) (ap (frontOf false) eb ∙ front-base iv size)
-    ∙ counterAnswer-fits f 3 (front iv) 1 s out (counterFits-three (length s) short))
+    ∙ counterAnswer-fits f 3 (front iv) 1 s out (counterFits-three 1 (length s) (lit≤ tt) short))
     ∙ e
 
 -- ---- the tag
 
--- one string with k is the other exactly where the other with k is the one
-same-moved : (a b k : List ℕ) → length a ≤ length k → length b ≤ length k → same (xors a k) b ≡ same (xors b k) a
+-- one string with k is the other exactly where it is the other with k
+same-moved : (a b k : List ℕ) → length a ≤ length k → length b ≤ length k → same (xors a k) b ≡ same a (xors b k)
 same-moved a b k ha hb = go (same (xors a k) b) refl
   where
-    go : (r : Bool) → same (xors a k) b ≡ r → r ≡ same (xors b k) a
+    go : (r : Bool) → same (xors a k) b ≡ r → r ≡ same a (xors b k)
     go true e = sym (rw (← same-equal (xors a k) b e, xors-cancel a k ha) (same-refl a))
-    go false e = sym (same-differ (xors b k) a (λ q. false≢true (sym e ∙ ap (λ (l : List ℕ). same l b) (ap (λ (l : List ℕ). xors l k) (sym q) ∙ xors-cancel b k hb) ∙ same-refl b)))
+    go false e = sym (same-differ a (xors b k) (λ q. false≢true (sym e ∙ ap (λ (l : List ℕ). same l b) (ap (λ (l : List ℕ). xors l k) q ∙ xors-cancel b k hb) ∙ same-refl b)))
 
 module _ (f : List ℕ → List ℕ) (size : (x : List ℕ) → length (f x) ≡ 16) (iv a : List ℕ) where
   length-mac : (p : List ℕ) → length (mac f iv a p) ≡ 16
@@ -124,7 +129,7 @@ module _ (f : List ℕ → List ℕ) (size : (x : List ℕ) → length (f x) ≡
   length-tagOf p = length-xors (mac f iv a p) (firstPad f iv) (omega (arith, length-mac p, size (counterBlock 3 (front iv) 0))) ∙ length-mac p
 
   -- the tag with S0 is the chain's last state exactly where the tag is the state with S0
-  pub tagRight-same : (c t : List ℕ) → length t ≡ 16 → tagRight f iv a c t ≡ same (tagOf f iv a (text f iv c)) t
+  pub tagRight-same : (c t : List ℕ) → length t ≡ 16 → tagRight f iv a c t ≡ same t (tagOf f iv a (text f iv c))
   unfolding tagOf tagRight
   tagRight-same c t h =
       same-moved t (mac f iv a (text f iv c)) (firstPad f iv) (omega (arith, size (counterBlock 3 (front iv) 0)))

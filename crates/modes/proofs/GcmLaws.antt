@@ -19,7 +19,7 @@ opened key iv s = text-text (cipher (schedule key)) (cipher-length (schedule key
 -- the tag is of the ciphertext, which the plaintext gives back
 right-exactly : (key iv a c t : List ℕ) → (gcm .authentic key iv a c t ≡ true) ↔ (gcm .tag key iv a (gcm .plaintext key iv c) ≡ t)
 unfolding tagRight
-right-exactly key iv a c t = (λ h. again ∙ sym (exactly .0 h), λ h. exactly .1 (sym (sym again ∙ h)))
+right-exactly key iv a c t = (λ h. again ∙ exactly .0 h, λ h. exactly .1 (sym again ∙ h))
   where
     tagged : List ℕ → List ℕ
     tagged c = tagOf (cipher (schedule key)) iv a c
@@ -27,7 +27,7 @@ right-exactly key iv a c t = (λ h. again ∙ sym (exactly .0 h), λ h. exactly 
     again : gcm .tag key iv a (gcm .plaintext key iv c) ≡ tagged c
     again = ap tagged (opened key iv c)
 
-    exactly : (gcm .authentic key iv a c t ≡ true) ↔ (t ≡ tagged c)
+    exactly : (gcm .authentic key iv a c t ≡ true) ↔ (tagged c ≡ t)
     exactly = same-exactly (gcm .authentic key iv a c t) t (tagged c) refl
 
 pub gcm-fitting : Fitting gcm

@@ -65,12 +65,12 @@ counterFits-past w i n = ap (ltb (256 ^ w)) last ∙ ltb-leb (256 ^ w) (i + bloc
 
 -- ---- counterFits: what fits, and the answer then
 
--- counter 1 and 3 bytes in CCM, 2 and 4 in GCM: every text that document 01 permits
-pub counterFits-three : (n : ℕ) → n ≤ textMax → counterFits 3 1 n ≡ true
-counterFits-three n h = le-leb (1 + blocks n) (256 ^ 3) (omega arith)
+-- from the first counters on, 3 bytes as in CCM and 4 as in GCM: every text that document 01 permits
+pub counterFits-three : (i n : ℕ) → i ≤ 2 → n ≤ textMax → counterFits 3 i n ≡ true
+counterFits-three i n first h = le-leb (i + blocks n) (256 ^ 3) (omega arith)
 
-pub counterFits-four : (n : ℕ) → n ≤ textMax → counterFits 4 2 n ≡ true
-counterFits-four n h = le-leb (2 + blocks n) (256 ^ 4) (omega arith)
+pub counterFits-four : (i n : ℕ) → i ≤ 2 → n ≤ textMax → counterFits 4 i n ≡ true
+counterFits-four i n first h = le-leb (i + blocks n) (256 ^ 4) (omega arith)
 
 module _ (f : List ℕ → List ℕ) (w : ℕ) (front : List ℕ) (i : ℕ) (s out : List ℕ) where
   pub counterAnswer-fits : counterFits w i (length s) ≡ true → counterAnswer f w front i s out ≡ (0, over (ctr f w front i s) out)

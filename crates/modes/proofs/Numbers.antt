@@ -3,15 +3,25 @@
 use mathlib.Core.Path.{_≡_, sym, ap, ap₂, _∙_}
 use mathlib.Core.Bool.{Bool, true, false, not, _||_}
 use mathlib.Core.List.{List, [], _∷_, _++_}
-use Prim.Native.Nat.{ℕ, _+_, _≤_}
-use borrow.Author.Tests.{eqb-true, ltb-false, not-false, eq-eqb, le-ltb}
+use Prim.Native.Nat.{ℕ, _+_, _≤_, _<_}
+use native.Mathlib.Omega.{arith}
+use borrow.Author.Tests.{eqb-true, ltb-false, not-false, eq-eqb, ne-eqb, le-ltb}
 use lib.Dec.{eqb, ltb}
 use lib.ListN.{length}
 use Rattle.octets.specs.Lent.{isNot, lowest, over, answer}
 use Rattle.octets.proofs.Tests.{or-left, or-right}
-use Rattle.octets.proofs.Lent.{isNot-false, isNot-right}
+use Rattle.octets.proofs.Lent.{isNot-false, isNot-right, answer-refused}
 use Rattle.modes.specs.Mode.{Mode, sealed}
 use Rattle.modes.specs.Calls.{dataMax, textMax, tooLong, encryptNumber, encryptAnswer, decryptNumber, decryptAnswer}
+
+-- ---- a number that is handed on with the output after it
+
+module _ (n : ℕ) (s out : List ℕ) where
+  pub answer-zero : (after : List ℕ) → n ≡ 0 → after ≡ over s out → answer n s out ≡ (n, after)
+  answer-zero after e ea = rw (ea, e)
+
+  pub answer-other : 0 < n → answer n s out ≡ (n, out)
+  answer-other h = answer-refused n s out (ne-eqb n 0 (λ e. omega arith))
 
 -- ---- what a test that was passed says, and the test that a length passes
 

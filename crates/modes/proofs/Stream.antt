@@ -86,12 +86,14 @@ module _ (f : List ℕ → List ℕ) (size : (x : List ℕ) → length (f x) ≡
             later : i + 1 + m ≡ i + suc m
             later = omega arith
 
-    -- two blocks, as the code writes them
-    pub ctr-pair : (i : ℕ) (s out ys zs : List ℕ) → length s ≡ 32 → length out ≡ 32
-        → ys ≡ xors (take 16 s) (f (counterBlock w front i)) → zs ≡ xors (take 16 (drop 16 s)) (f (counterBlock w front (i + 1)))
+    -- two blocks x and y, as the code writes them one after the other
+    pub ctr-pair : (i : ℕ) (s out x y ys zs : List ℕ) → length s ≡ 32 → length out ≡ 32
+        → x ≡ xors (take 16 s) (f (counterBlock w front i)) → y ≡ xors (take 16 (drop 16 s)) (f (counterBlock w front (i + 1)))
+        → ys ≡ over x (take 16 out) → zs ≡ over y (take 16 (drop 16 (ys ++ drop 16 out)))
         → take 16 (ys ++ drop 16 out) ++ (zs ++ drop 16 (drop 16 (ys ++ drop 16 out))) ≡ ctr f w front i s
-    ctr-pair i s out ys zs long room first second =
-        pair-written out ys zs room sized
+    ctr-pair i s out x y ys zs long room first second ex ey =
+        pair-written out x y ys zs room (sized (take 16 s) x i first (length-take-le 16 s (omega arith)))
+        (sized (take 16 (drop 16 s)) y (i + 1) second (length-take-le 16 (drop 16 s) (omega (arith, length-drop 16 s)))) ex ey
         ∙ ap₂ (λ (l r : List ℕ). l ++ r) first
         (second ∙ ap (λ (l : List ℕ). xors l (f (counterBlock w front (i + 1)))) (take-all 16 (drop 16 s) rest) ∙ sym (ctr-last (i + 1) (drop 16 s) rest))
         ∙ sym (ctr-next i s (omega arith))
@@ -99,14 +101,8 @@ module _ (f : List ℕ → List ℕ) (size : (x : List ℕ) → length (f x) ≡
         rest : length (drop 16 s) ≤ 16
         rest = omega (arith, length-drop 16 s)
 
-        front-size : length (take 16 s) ≡ 16
-        front-size = length-take-le 16 s (omega arith)
-
-        sized : length ys ≡ 16
-        sized =
-            ap length first
-            ∙ length-xors (take 16 s) (f (counterBlock w front i)) (omega (arith, front-size, size (counterBlock w front i)))
-            ∙ front-size
+        sized : (b x : List ℕ) (k : ℕ) → x ≡ xors b (f (counterBlock w front k)) → length b ≡ 16 → length x ≡ 16
+        sized b x k e h = ap length e ∙ length-xors b (f (counterBlock w front k)) (omega (arith, h, size (counterBlock w front k))) ∙ h
 
     -- twice gives the string back
     pub ctr-ctr : (i : ℕ) (s : List ℕ) → ctr f w front i (ctr f w front i s) ≡ s

@@ -3,6 +3,7 @@
 use mathlib.Core.Path.{_≡_, refl, sym, ap, ap₂, _∙_}
 use mathlib.Core.Bool.{true}
 use mathlib.Core.List.{List, [], _∷_, _++_}
+use lib.Dec.{lit≤}
 use Prim.Native.Nat.{ℕ, _+_, _*_, _≤_}
 use lib.ListN.{length, getD, length-append}
 use lib.Seq.{take-at}
@@ -14,7 +15,7 @@ use Rattle.octets.specs.Blocks.{cut}
 use Rattle.octets.proofs.Values.{values-list}
 use Rattle.ghash.specs.Ghash.{zeros, ghash}
 use Rattle.ghash.proofs.Laws.{ghash-length}
-use Rattle.modes.specs.Counter.{counterBlock, counterAnswer, frontOf}
+use Rattle.modes.specs.Counter.{counterBlock, ctr, counterAnswer, frontOf}
 use Rattle.modes.specs.Gcm.{inc32, hashKey, preCounter, text, lengthsBlock, tagOf}
 use Rattle.modes.specs.Calls.{textMax}
 use Rattle.modes.proofs.Limits.{counterFits-four, counterAnswer-fits}
@@ -40,9 +41,15 @@ module _ (f : List ℕ → List ℕ) where
   counter-text iv s base out x size short eb e =
       sym
       (ap (λ (l : List ℕ). counterAnswer f 4 l 2 s out) (ap (frontOf true) eb ∙ front-base iv size)
-      ∙ counterAnswer-fits f 4 iv 2 s out (counterFits-four (length s) short)
-      ∙ ap (λ (l : List ℕ). (0, over l out)) (sym (gctr-two iv size f s (counterFits-four (length s) short))))
+      ∙ counterAnswer-fits f 4 iv 2 s out (counterFits-four 2 (length s) (lit≤ tt) short)
+      ∙ ap (λ (l : List ℕ). (0, over l out)) (sym (gctr-two iv size f s (counterFits-four 2 (length s) (lit≤ tt) short))))
       ∙ e
+
+  -- from the counter blocks' front as the code has it
+  pub text-counted : (iv s base : List ℕ) → length iv ≡ 12 → length s ≤ textMax → base ≡ iv ++ be 4 0 → text f iv s ≡ ctr f 4 (frontOf true base) 2 s
+  unfolding text
+  text-counted iv s base size short eb =
+      gctr-two iv size f s (counterFits-four 2 (length s) (lit≤ tt) short) ∙ ap (λ (l : List ℕ). ctr f 4 l 2 s) (sym (ap (frontOf true) eb ∙ front-base iv size))
 
   -- ---- the tag
 

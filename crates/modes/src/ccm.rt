@@ -4,6 +4,7 @@ use crate::chain::chain_along;
 use crate::chain::close;
 use crate::counter::counter;
 use crate::counter::counter_block;
+use crate::counter::counter_if;
 use crate::lengths::no_room;
 use crate::lengths::too_long;
 use crate::lengths::wrong_key_or_iv;
@@ -11,10 +12,11 @@ use crate::lengths::wrong_tag;
 use crate::parts::block_at;
 use crate::parts::iv_of;
 use crate::parts::key_of;
+use crate::tag::same_tag;
+use crate::tag::tag_number;
 use aes::expand_key;
 use aes_fast::round_tables;
 use octets::big_endian::bytes16;
-use octets::strings::equal;
 use octets::strings::put;
 use octets::strings::xor_blocks;
 ghost use mathlib.Core.Path.{_≡_};
@@ -24,7 +26,6 @@ ghost use Prim.Native.Nat.{_+_, _≤_, _<_};
 ghost use lib.ListN.{length};
 ghost use Rattle.octets.specs.BigEndian.{be};
 ghost use Rattle.octets.specs.Blocks.{cut, chain};
-ghost use Rattle.octets.specs.Same.{same};
 ghost use Rattle.octets.specs.Lent.{lowest, over, answer};
 ghost use Rattle.octets.specs.Xor.{xors};
 ghost use Rattle.aes.specs.Cipher.{cipher};
@@ -219,14 +220,6 @@ fn chain_opened(
     open_last(t, ks, base, k, x, &c[at..])
 }
 
-// Whether the tag is the right one, over all its bytes.
-fn same_tag(right: [u8; 16], tag: &[u8]) -> bool
-    requires { ⌜ length (now tag) ≡ 16 ⌝ }
-    ensures { λ r. ⌜ r ≡ same right (now (tag .entry)) ⌝ }
-{
-    equal(&right, tag)
-}
-
 // Whether the tag is right. The test is lent no output: a plaintext that is not authentic has nowhere to go.
 fn authentic(
     t: &[[u32; 256]; 4],
@@ -241,7 +234,7 @@ fn authentic(
     ensures { λ r. ⌜ r ≡ tagRight (cipher ks) iv (now (a .entry) ++ now (b .entry)) (now (c .entry)) (now (tag .entry)) ⌝ }
 {
     let y = chain_opened(t, ks, iv, chain_start(t, ks, iv, a, b, c.len()), c);
-    same_tag(xor_blocks(y, first_pad(t, ks, iv)), tag)
+    same_tag(tag, xor_blocks(y, first_pad(t, ks, iv)))
 }
 
 fn seal(key: [u8; 32], iv: [u8; 12], a: &[u8], b: &[u8], p: &[u8], out: &mut [u8])
@@ -263,10 +256,8 @@ fn open(key: [u8; 32], iv: [u8; 12], a: &[u8], b: &[u8], c: &[u8], tag: &[u8], o
 {
     let t = round_tables();
     let ks = expand_key(key);
-    if !authentic(&t, ks, iv, a, b, c, tag) {
-        return 9;
-    }
-    counter(&t, ks, base_of(iv), false, 1, c, out)
+    let number = tag_number(authentic(&t, ks, iv, a, b, c, tag));
+    counter_if(number, &t, ks, base_of(iv), false, 1, c, out)
 }
 
 // Over associated data that comes in two parts.

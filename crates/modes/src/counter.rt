@@ -6,11 +6,11 @@ use aes_fast::encrypt_two;
 use octets::strings::put;
 use octets::strings::xor_blocks;
 ghost use mathlib.Core.Path.{_≡_};
-ghost use mathlib.Core.Bool.{not};
+ghost use mathlib.Core.Bool.{true, not};
 ghost use Prim.Native.Nat.{_+_, _≤_, _<_};
 ghost use lib.ListN.{length, take, drop};
 ghost use Rattle.octets.specs.Blocks.{blocks};
-ghost use Rattle.octets.specs.Lent.{over};
+ghost use Rattle.octets.specs.Lent.{over, answer};
 ghost use Rattle.octets.specs.Xor.{xors};
 ghost use Rattle.aes.specs.Cipher.{cipher};
 ghost use Rattle.aes_fast.specs.Right.{Right};
@@ -75,15 +75,6 @@ fn runs_over(wide: bool, i: usize, n: usize) -> bool
     16777216 < last
 }
 
-// A whole block of the text with its pad, in place of the output's.
-fn add_block(text: &[u8], i: usize, pad: [u8; 16], out: &mut [u8])
-    requires { ⌜ (i + 16 ≤ length (now text)) × (length (now out) ≡ 16) ⌝ }
-    ensures { λ _. ⌜ now (out .exit) ≡ xors (take 16 (drop i (now (text .entry)))) pad ⌝ }
-{
-    let done = xor_blocks(block_at(text, i), pad);
-    put(out, &done);
-}
-
 // The last part of the text, of 16 bytes or less, with its pad.
 fn add_last(text: &[u8], pad: [u8; 16], out: &mut [u8])
     requires { ⌜ (length (now text) ≤ 16) × (length (now out) ≡ length (now text)) ⌝ }
@@ -115,8 +106,12 @@ fn add_pair(
     let first = counter_block(base, wide, k);
     let second = counter_block(base, wide, k + 1);
     let pads = encrypt_two(t, ks, [first, second]);
-    add_block(text, start, pads[0], &mut out[start..middle]);
-    add_block(text, middle, pads[1], &mut out[middle..end]);
+    let block = block_at(text, start);
+    let later = block_at(text, middle);
+    let done = xor_blocks(block, pads[0]);
+    let later_done = xor_blocks(later, pads[1]);
+    put(&mut out[start..middle], &done);
+    put(&mut out[middle..end], &later_done);
 }
 
 // The whole text, two blocks at a time and the rest a block at a time.
@@ -168,4 +163,25 @@ pub(crate) fn counter(
     }
     run(t, ks, base, wide, i, text, out);
     0
+}
+
+// The same where the number is 0; after any other nothing is written. The number is handed on.
+pub(crate) fn counter_if(
+    number: u8,
+    t: &[[u32; 256]; 4],
+    ks: [[[u8; 4]; 4]; 15],
+    base: [u8; 16],
+    wide: bool,
+    i: usize,
+    text: &[u8],
+    out: &mut [u8],
+) -> u8
+    requires { ⌜ Right (now t) × (length (now text) ≤ length (now out)) × (i ≤ 2) × (counterFits (width wide) i (length (now text)) ≡ true) ⌝ }
+    ensures { λ r. ⌜ answer number (ctr (cipher ks) (width wide) (frontOf wide base) i (now (text .entry))) (now (out .entry)) ≡ (r, now (out .exit)) ⌝ }
+{
+    if number < 1 {
+        counter(t, ks, base, wide, i, text, out);
+        return number;
+    }
+    number
 }

@@ -1,17 +1,19 @@
 // GCM: SP 800-38D with a 96-bit IV and a 16-byte tag.
 use crate::counter::counter;
 use crate::counter::counter_block;
+use crate::counter::counter_if;
 use crate::lengths::no_room;
 use crate::lengths::too_long;
 use crate::lengths::wrong_key_or_iv;
 use crate::lengths::wrong_tag;
 use crate::parts::iv_of;
 use crate::parts::key_of;
+use crate::tag::same_tag;
+use crate::tag::tag_number;
 use aes::expand_key;
 use aes_fast::round_tables;
 use ghash::hash::ghash_parts;
 use octets::big_endian::bytes64;
-use octets::strings::equal;
 use octets::strings::put;
 use octets::strings::xor_blocks;
 ghost use mathlib.Core.Path.{_≡_};
@@ -108,11 +110,10 @@ fn authentic(
     c: &[u8],
     tag: &[u8],
 ) -> bool
-    requires { ⌜ Right (now t) × (length (now a) + length (now b) ≤ 4152) × (length (now c) ≤ 1048576) ⌝ }
+    requires { ⌜ Right (now t) × (length (now a) + length (now b) ≤ 4152) × (length (now c) ≤ 1048576) × (length (now tag) ≡ 16) ⌝ }
     ensures { λ r. ⌜ r ≡ tagRight (cipher ks) iv (now (a .entry) ++ now (b .entry)) (now (c .entry)) (now (tag .entry)) ⌝ }
 {
-    let right = tag_of(t, ks, iv, a, b, c);
-    equal(tag, &right)
+    same_tag(tag, tag_of(t, ks, iv, a, b, c))
 }
 
 fn seal(key: [u8; 32], iv: [u8; 12], a: &[u8], b: &[u8], p: &[u8], out: &mut [u8])
@@ -129,15 +130,13 @@ fn seal(key: [u8; 32], iv: [u8; 12], a: &[u8], b: &[u8], p: &[u8], out: &mut [u8
 
 // 9, or 0 with the plaintext. The output is lent on only after the tag was found right.
 fn open(key: [u8; 32], iv: [u8; 12], a: &[u8], b: &[u8], c: &[u8], tag: &[u8], out: &mut [u8]) -> u8
-    requires { ⌜ (length (now a) + length (now b) ≤ 4152) × (length (now c) ≤ 1048576) × (length (now c) ≤ length (now out)) ⌝ }
+    requires { ⌜ (length (now a) + length (now b) ≤ 4152) × (length (now c) ≤ 1048576) × (length (now tag) ≡ 16) × (length (now c) ≤ length (now out)) ⌝ }
     ensures { λ r. ⌜ answer (lowest ((9, not (tagRight (cipher (schedule key)) iv (now (a .entry) ++ now (b .entry)) (now (c .entry)) (now (tag .entry)))) ∷ [])) (text (cipher (schedule key)) iv (now (c .entry))) (now (out .entry)) ≡ (r, now (out .exit)) ⌝ }
 {
     let t = round_tables();
     let ks = expand_key(key);
-    if !authentic(&t, ks, iv, a, b, c, tag) {
-        return 9;
-    }
-    counter(&t, ks, base_of(iv), true, 2, c, out)
+    let number = tag_number(authentic(&t, ks, iv, a, b, c, tag));
+    counter_if(number, &t, ks, base_of(iv), true, 2, c, out)
 }
 
 // Over associated data that comes in two parts.

@@ -5,3 +5,4 @@ mod counter;
 pub mod gcm;
 mod lengths;
 mod parts;
+mod tag;

@@ -25,7 +25,7 @@ returns c =
     let ab = a .a .now ++ a .b .now in
     let size = cipher-length (a .ks) in
     c .same-tag .ensures
-    ∙ ap (λ (r : List ℕ). same r (a .tag .now))
+    ∙ ap (same (a .tag .now))
     (tag-steps F size (a .iv) ab (text F (a .iv) (a .c .now)) _ _ _ _
     (begun .chain-start .ensures ∙ ap (λ (n : ℕ). chain F (F (firstBlock (a .iv) ab n)) (dataBlocks ab)) (sym (length-text F size (a .iv) (a .c .now))))
     (along .chain-opened .ensures) (padded .first-pad .ensures) (added .xor-blocks .ensures))

@@ -10,9 +10,9 @@ use Rattle.modes.proofs.gcm.authentic.Tie as tie
 returns : tie.Need-returns
 unfolding tagRight
 returns c =
-    let tagged = c .before .before in
-    c .equal .ensures ∙ ap (same (tagged .before .before .before .before .before .args .tag .now)) (tagged .tag-of .ensures)
+    let tagged = c .before in
+    c .same-tag .ensures ∙ ap (same (tagged .before .before .before .before .before .args .tag .now)) (tagged .tag-of .ensures)
 
 pub authentic-spec : {M : Type 1} → statement M
 authentic-spec =
-    tie.close (tie.spec (λ c κs. search needs) (λ c. search needs) (λ c κs. search needs) returns)
+    tie.close (tie.spec (λ c κs. search needs) (λ c κs. search needs) returns)

@@ -11,6 +11,7 @@ use lib.ListN.{length}
 use Rattle.octets.specs.Lent.{isNot}
 use Rattle.modes.specs.Calls.{tooLong}
 use Rattle.modes.specs.Gcm.{gcm}
+use Rattle.octets.proofs.Lent.{isNot-false}
 use Rattle.modes.proofs.Numbers.{key-right, iv-right, data-fits, text-fits, decrypt-two, decrypt-two-tag, decrypt-four, decrypt-five, decrypt-done}
 use Rattle.modes.proofs.gcm.decrypt_parts.Statement.{statement}
 use Rattle.modes.proofs.gcm.decrypt_parts.Tie as tie
@@ -69,7 +70,7 @@ open-requires c κs =
     let tested = passed .before .before .before in
     let tag-tested = tested .before .before in
     let a = start (tag-tested .before .before) .args in
-    (data-fits (a .a .now) (a .b .now) (a .text .now) (maxima tested), text-fits (a .a .now) (a .b .now) (a .text .now) (maxima tested), ltb-false _ _ (room passed))
+    (data-fits (a .a .now) (a .b .now) (a .text .now) (maxima tested), text-fits (a .a .now) (a .b .now) (a .text .now) (maxima tested), isNot-false 16 (a .tag .now) (tag-size tag-tested), ltb-false _ _ (room passed))
 
 returns-5 : tie.Need-returns-5
 returns-5 c =

@@ -1,49 +1,49 @@
 -- `modes::gcm::open` meets its contract: 9 where the tag is wrong, and else the plaintext.
 -- Assumes nothing.
-use mathlib.Core.Path.{sym, ap, _∙_}
-use mathlib.Core.List.{List, _++_}
+use mathlib.Core.Path.{_≡_, sym, ap, ap₂, _∙_}
+use mathlib.Core.Bool.{not}
+use mathlib.Core.List.{List, [], _∷_, _++_}
+use lib.Dec.{lit≤}
 use Prim.Native.Nat.{ℕ}
 use native.Mathlib.Omega.{arith}
 use borrow.Author.Needs.{needs}
-use borrow.Author.Tests.{not-true, not-false}
-use Rattle.octets.specs.Lent.{over}
+use Rattle.octets.specs.Lent.{lowest, answer}
 use Rattle.aes.specs.State.{State}
 use Rattle.aes.specs.Cipher.{cipher}
 use Rattle.aes_fast.proofs.Laws.{roundTables-right}
 use Rattle.modes.specs.Gcm.{text, tagRight}
-use Rattle.modes.proofs.Numbers.{opened-wrong, opened-right}
-use Rattle.modes.proofs.Tagged.{counter-text}
+use Rattle.modes.proofs.Limits.{counterFits-four}
+use Rattle.modes.proofs.Tagged.{text-counted}
 use Rattle.modes.proofs.gcm.open.Statement.{statement}
 use Rattle.modes.proofs.gcm.open.Tie as tie
 
 authentic-requires : tie.Need-authentic-requires
-authentic-requires c κs = (rw (c .before .before .round-tables .ensures) roundTables-right, omega arith, omega arith)
+authentic-requires c κs =
+    let start = c .before .before .before .before .before .before .before .before in
+    (rw (c .before .before .round-tables .ensures) roundTables-right, omega arith, omega arith, start .pre .2)
+
+counter-if-requires : tie.Need-counter-if-requires
+counter-if-requires c κs =
+    let made = c .before .before .before .before .before .before .before in
+    let start = made .before .before .before .before .before .before in
+    (rw (made .round-tables .ensures) roundTables-right, omega arith, omega arith, counterFits-four _ _ (lit≤ tt) (start .pre .1))
 
 returns : tie.Need-returns
 returns c =
-    let tried = c .before in
-    let a = tried .before .before .before .before .before .before .before .before .before .args in
-    opened-wrong _ _ (a .out .now)
-    (ap (λ (ks : List State). tagRight (cipher ks) (a .iv) (a .a .now ++ a .b .now) (a .c .now) (a .tag .now)) (sym (tried .before .before .expand-key .ensures))
-    ∙ sym (tried .authentic .ensures) ∙ not-true _ (c .if1 .taken))
-
-counter-requires : tie.Need-counter-requires
-counter-requires c κs = (rw (c .before .before .before .before .before .before .before .round-tables .ensures) roundTables-right, omega arith, omega arith)
-
-returns-2 : tie.Need-returns-2
-returns-2 c =
-    let ran = c .before .before in
-    let base = ran .before .before in
-    let found = base .before .before in
-    let tried = found .before in
-    let made = tried .before .before in
+    let written = c .before .before in
+    let base = written .before .before in
+    let numbered = base .before .before in
+    let tested = numbered .before in
+    let made = tested .before .before in
     let start = made .before .before .before .before .before .before .before in
     let a = start .args in
-    opened-right _ _ (a .out .now)
-    (ap (λ (ks : List State). tagRight (cipher ks) (a .iv) (a .a .now ++ a .b .now) (a .c .now) (a .tag .now)) (sym (made .expand-key .ensures))
-    ∙ sym (tried .authentic .ensures) ∙ not-false _ (found .if1 .left))
-    ∙ ap (λ (ks : List State). (0, over (text (cipher ks) (a .iv) (a .c .now)) (a .out .now))) (sym (made .expand-key .ensures))
-    ∙ counter-text (cipher (made .expand-key .result)) (a .iv) (a .c .now) _ (a .out .now) _ (start .good .1 .0 .1 .0 .1) (start .pre .1) (base .base-of .ensures) (ran .counter .ensures)
+    let F = cipher (made .expand-key .result) in
+    ap (λ (ks : List State). answer (lowest ((9, not (tagRight (cipher ks) (a .iv) (a .a .now ++ a .b .now) (a .c .now) (a .tag .now))) ∷ [])) (text (cipher ks) (a .iv) (a .c .now)) (a .out .now))
+    (sym (made .expand-key .ensures))
+    ∙ ap₂ (λ (n : ℕ) (s : List ℕ). answer n s (a .out .now))
+    (sym (numbered .tag-number .ensures ∙ ap (λ r. lowest ((9, not r) ∷ [])) (tested .authentic .ensures)))
+    (text-counted F (a .iv) (a .c .now) _ (start .good .1 .0 .1 .0 .1) (start .pre .1) (base .base-of .ensures))
+    ∙ written .counter-if .ensures
 
 pub open-spec : {M : Type 1} → statement M
 open-spec =
@@ -52,8 +52,8 @@ open-spec =
     (λ c κs. search needs)
     (λ c κs. search needs)
     authentic-requires
-    returns
     (λ c κs. search needs)
-    counter-requires
+    (λ c κs. search needs)
+    counter-if-requires
     (λ c. search needs)
-    returns-2)
+    returns)
