@@ -10,7 +10,7 @@
 
 #define MOST 1048576
 
-static const struct peer *const peers[] = { &unit, &openssl, &nettle, &mbedtls };
+static const struct peer *const peers[] = { &unit, &openssl, &nettle, &mbedtls, &gcrypt, &bearssl };
 #define PEERS (sizeof peers / sizeof peers[0])
 
 static const size_t sizes[] = { 64, 1024, 65536, MOST };

@@ -22,6 +22,6 @@ struct peer {
     int (*open)(int mode, struct message *m);
 };
 
-extern const struct peer unit, openssl, nettle, mbedtls;
+extern const struct peer unit, openssl, nettle, mbedtls, gcrypt, bearssl;
 
 #endif

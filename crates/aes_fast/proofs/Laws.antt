@@ -1,15 +1,15 @@
 -- The laws of specs/Laws.antt.
 -- Assumes nothing.
-use mathlib.Core.Path.{refl, sym}
+use mathlib.Core.Path.{sym}
 use Rattle.octets.proofs.Lent.{one-answer}
 use Rattle.aes.specs.KeyExpansion.{schedule}
 use Rattle.aes.proofs.Keys.{schedule-keys}
 use Rattle.aes_fast.specs.Right.Inside.{is-right}
-use Rattle.aes_fast.specs.Laws.{RoundTablesRight, CipherByRight, CipheredUnique, CipheredTwoUnique}
+use Rattle.aes_fast.specs.Laws.{MadeReady, CipherByRight, CipheredUnique, CipheredTwoUnique}
 use Rattle.aes_fast.proofs.Cipher as cipher
 
-pub roundTables-right : RoundTablesRight
-roundTables-right = is-right refl
+pub made-ready : MadeReady
+made-ready t ks key et ek bytes = record { tables = is-right et; keys = λ n c. rw ek (schedule-keys key bytes n .columns c) }
 
 pub cipherBy-right : CipherByRight
 cipherBy-right t key b right hk hb = cipher.cipherBy-right t (schedule key) (schedule-keys key hk) right b hb

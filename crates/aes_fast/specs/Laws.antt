@@ -8,21 +8,21 @@ use Rattle.aes.specs.State.{State}
 use Rattle.aes.specs.Cipher.{cipher}
 use Rattle.aes.specs.KeyExpansion.{schedule}
 use Rattle.aes_fast.specs.ByTables.{Tables, cipherBy}
-use Rattle.aes_fast.specs.Right.{roundTables, Right}
+use Rattle.aes_fast.specs.Right.{roundTables, Right, Ready}
 
--- r is the block b ciphered: by the lent tables, whatever they are, and so by FIPS 197 where they are the right ones
+-- r is the block b ciphered: by the lent tables and round keys, whatever they are, and so by FIPS 197 where the tables are the right ones and the keys are bytes
 pub record Ciphered (t : Tables) (ks : List State) (b r : List ℕ) : Type 0 where
   pub by-tables : r ≡ cipherBy t ks b
-  pub by-cipher : Right t → r ≡ cipher ks b
+  pub by-cipher : Ready t ks → r ≡ cipher ks b
 
 -- the same of two blocks
 pub record CipheredTwo (t : Tables) (ks : List State) (a b : List ℕ) (r : List (List ℕ)) : Type 0 where
   pub by-tables : r ≡ cipherBy t ks a ∷ cipherBy t ks b ∷ []
-  pub by-cipher : Right t → r ≡ cipher ks a ∷ cipher ks b ∷ []
+  pub by-cipher : Ready t ks → r ≡ cipher ks a ∷ cipher ks b ∷ []
 
--- the tables that are made are right
-abbrev pub RoundTablesRight : Type 0
-RoundTablesRight = Right roundTables
+-- the tables that are made, and the schedule of a key, are ready
+abbrev pub MadeReady : Type 0
+MadeReady = (t : Tables) (ks : List State) (key : List ℕ) → t ≡ roundTables → ks ≡ schedule key → Bytes key → Ready t ks
 
 -- with right tables it is the cipher, under the schedule of any key of bytes
 abbrev pub CipherByRight : Type 0

@@ -1,3 +1,4 @@
 pub mod ByTables
+pub mod Places
 pub mod Right
 pub mod Laws

@@ -6,8 +6,10 @@ use Prim.Native.Nat.{ℕ, _+_, _-_, _*_, _%_}
 use mathlib.Core.List.{List, [], _∷_}
 use lib.ListN.{getD}
 use Rattle.octets.specs.Values.{values}
+use Rattle.octets.specs.Bytes.{Bytes}
 use Rattle.aes_field.specs.Field.{times, sbox}
 use Rattle.aes_field.specs.Words.{Column, columnOf}
+use Rattle.aes.specs.State.{State, column}
 use Rattle.aes_fast.specs.ByTables.{Tables}
 pub mod Inside
 
@@ -35,3 +37,8 @@ roundTables = roundTable 0 ∷ roundTable 1 ∷ roundTable 2 ∷ roundTable 3 �
 
 pub Right : Tables → Type 0
 Right t = t ≡ roundTables
+
+-- what a caller keeps for a record and lends down: the right tables, and round keys of bytes
+pub record Ready (t : Tables) (ks : List State) : Type 0 where
+  pub tables : Right t
+  pub keys : (n c : ℕ) → Bytes (column (getD ks n []) c)

@@ -1,4 +1,5 @@
 // AES-256 by tables of words that a caller makes once for a record and lends down, one block or two at a time.
+mod places;
 mod rounds;
 mod tables;
 mod words;
@@ -6,8 +7,8 @@ mod words;
 use aes::state::load;
 use aes::state::store;
 use aes_field::sbox_table;
+use places::place_rounds;
 use rounds::add_round_key;
-use rounds::all_rounds;
 use rounds::all_rounds_two;
 use rounds::last_round;
 use tables::round_table;
@@ -30,20 +31,19 @@ pub fn round_tables() -> [[u32; 256]; 4]
     ]
 }
 
-pub fn encrypt(t: &[[u32; 256]; 4], ks: [[[u8; 4]; 4]; 15], block: [u8; 16]) -> [u8; 16]
-    ensures { λ r. ⌜ Ciphered (now (t .entry)) ks block r ⌝ }
+pub fn encrypt(t: &[[u32; 256]; 4], ks: &[[[u8; 4]; 4]; 15], block: [u8; 16]) -> [u8; 16]
+    ensures { λ r. ⌜ Ciphered (now (t .entry)) (now (ks .entry)) block r ⌝ }
 {
-    let x = add_round_key(load(block), ks[0]);
-    store(last_round(t, all_rounds(t, ks, x), ks[14]))
+    store(place_rounds(t, ks, add_round_key(load(block), ks[0])))
 }
 
 // Two blocks side by side: neither waits for the other.
 pub fn encrypt_two(
     t: &[[u32; 256]; 4],
-    ks: [[[u8; 4]; 4]; 15],
+    ks: &[[[u8; 4]; 4]; 15],
     blocks: [[u8; 16]; 2],
 ) -> [[u8; 16]; 2]
-    ensures { λ r. ⌜ CipheredTwo (now (t .entry)) ks (getD blocks 0 []) (getD blocks 1 []) r ⌝ }
+    ensures { λ r. ⌜ CipheredTwo (now (t .entry)) (now (ks .entry)) (getD blocks 0 []) (getD blocks 1 []) r ⌝ }
 {
     let x = add_round_key(load(blocks[0]), ks[0]);
     let y = add_round_key(load(blocks[1]), ks[0]);

@@ -71,31 +71,13 @@ pub(crate) fn last_round(t: &[[u32; 256]; 4], s: [[u8; 4]; 4], k: [[u8; 4]; 4]) 
     ]
 }
 
-// Rounds 1 to 13.
-pub(crate) fn all_rounds(
-    t: &[[u32; 256]; 4],
-    ks: [[[u8; 4]; 4]; 15],
-    s: [[u8; 4]; 4],
-) -> [[u8; 4]; 4]
-    ensures { λ r. ⌜ r ≡ roundsBy (now (t .entry)) ks 13 s ⌝ }
-{
-    let mut x = s;
-    let mut i: usize = 0;
-    while i < 13 {
-        let u = one_round(t, x, ks[i + 1]);
-        x = u;
-        i += 1;
-    }
-    x
-}
-
-// The same of two states side by side.
+// Rounds 1 to 13 of two states side by side.
 pub(crate) fn all_rounds_two(
     t: &[[u32; 256]; 4],
-    ks: [[[u8; 4]; 4]; 15],
+    ks: &[[[u8; 4]; 4]; 15],
     s: [[[u8; 4]; 4]; 2],
 ) -> [[[u8; 4]; 4]; 2]
-    ensures { λ r. ⌜ r ≡ roundsBy (now (t .entry)) ks 13 (getD s 0 []) ∷ roundsBy (now (t .entry)) ks 13 (getD s 1 []) ∷ [] ⌝ }
+    ensures { λ r. ⌜ r ≡ roundsBy (now (t .entry)) (now (ks .entry)) 13 (getD s 0 []) ∷ roundsBy (now (t .entry)) (now (ks .entry)) 13 (getD s 1 []) ∷ [] ⌝ }
 {
     let mut x = s[0];
     let mut y = s[1];

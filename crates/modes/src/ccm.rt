@@ -30,7 +30,7 @@ ghost use Rattle.octets.specs.Lent.{lowest, over, answer};
 ghost use Rattle.octets.specs.Xor.{xors};
 ghost use Rattle.aes.specs.Cipher.{cipher};
 ghost use Rattle.aes.specs.KeyExpansion.{schedule};
-ghost use Rattle.aes_fast.specs.Right.{Right};
+ghost use Rattle.aes_fast.specs.Right.{Ready};
 ghost use Rattle.modes.specs.Mode.{sealed};
 ghost use Rattle.modes.specs.Counter.{counterBlock, ctr, frontOf};
 ghost use Rattle.modes.specs.Ccm.{flags, firstBlock, dataBlocks, front, firstPad, text, tagOf, tagRight, ccm};
@@ -92,9 +92,9 @@ fn base_of(iv: [u8; 12]) -> [u8; 16]
 }
 
 // S0, which is added to the tag.
-fn first_pad(t: &[[u32; 256]; 4], ks: [[[u8; 4]; 4]; 15], iv: [u8; 12]) -> [u8; 16]
-    requires { ⌜ Right (now t) ⌝ }
-    ensures { λ r. ⌜ r ≡ firstPad (cipher ks) iv ⌝ }
+fn first_pad(t: &[[u32; 256]; 4], ks: &[[[u8; 4]; 4]; 15], iv: [u8; 12]) -> [u8; 16]
+    requires { ⌜ Ready (now t) (now ks) ⌝ }
+    ensures { λ r. ⌜ r ≡ firstPad (cipher (now (ks .entry))) iv ⌝ }
 {
     aes_fast::encrypt(t, ks, counter_block(base_of(iv), false, 0))
 }
@@ -102,13 +102,13 @@ fn first_pad(t: &[[u32; 256]; 4], ks: [[[u8; 4]; 4]; 15], iv: [u8; 12]) -> [u8; 
 // The chain after the associated data, which is a and then b.
 fn chain_data(
     t: &[[u32; 256]; 4],
-    ks: [[[u8; 4]; 4]; 15],
+    ks: &[[[u8; 4]; 4]; 15],
     y: [u8; 16],
     a: &[u8],
     b: &[u8],
 ) -> [u8; 16]
-    requires { ⌜ Right (now t) × (length (now a) + length (now b) < 65536) ⌝ }
-    ensures { λ r. ⌜ r ≡ chain (cipher ks) y (dataBlocks (now (a .entry) ++ now (b .entry))) ⌝ }
+    requires { ⌜ Ready (now t) (now ks) × (length (now a) + length (now b) < 65536) ⌝ }
+    ensures { λ r. ⌜ r ≡ chain (cipher (now (ks .entry))) y (dataBlocks (now (a .entry) ++ now (b .entry))) ⌝ }
 {
     let n = a.len() + b.len();
     if n == 0 {
@@ -125,14 +125,14 @@ fn chain_data(
 // The chain up to the payload.
 fn chain_start(
     t: &[[u32; 256]; 4],
-    ks: [[[u8; 4]; 4]; 15],
+    ks: &[[[u8; 4]; 4]; 15],
     iv: [u8; 12],
     a: &[u8],
     b: &[u8],
     n: usize,
 ) -> [u8; 16]
-    requires { ⌜ Right (now t) × (length (now a) + length (now b) < 65536) ⌝ }
-    ensures { λ r. ⌜ r ≡ chain (cipher ks) (cipher ks (firstBlock iv (now (a .entry) ++ now (b .entry)) n)) (dataBlocks (now (a .entry) ++ now (b .entry))) ⌝ }
+    requires { ⌜ Ready (now t) (now ks) × (length (now a) + length (now b) < 65536) ⌝ }
+    ensures { λ r. ⌜ r ≡ chain (cipher (now (ks .entry))) (cipher (now (ks .entry)) (firstBlock iv (now (a .entry) ++ now (b .entry)) n)) (dataBlocks (now (a .entry) ++ now (b .entry))) ⌝ }
 {
     let with_data = a.len() + b.len() != 0;
     let first = aes_fast::encrypt(t, ks, first_block(iv, with_data, n));
@@ -142,14 +142,14 @@ fn chain_start(
 // The tag of a plaintext.
 fn tag_of(
     t: &[[u32; 256]; 4],
-    ks: [[[u8; 4]; 4]; 15],
+    ks: &[[[u8; 4]; 4]; 15],
     iv: [u8; 12],
     a: &[u8],
     b: &[u8],
     p: &[u8],
 ) -> [u8; 16]
-    requires { ⌜ Right (now t) × (length (now a) + length (now b) < 65536) ⌝ }
-    ensures { λ r. ⌜ r ≡ tagOf (cipher ks) iv (now (a .entry) ++ now (b .entry)) (now (p .entry)) ⌝ }
+    requires { ⌜ Ready (now t) (now ks) × (length (now a) + length (now b) < 65536) ⌝ }
+    ensures { λ r. ⌜ r ≡ tagOf (cipher (now (ks .entry))) iv (now (a .entry) ++ now (b .entry)) (now (p .entry)) ⌝ }
 {
     let y = chain_along(t, ks, chain_start(t, ks, iv, a, b, p.len()), p);
     xor_blocks(y, first_pad(t, ks, iv))
@@ -158,14 +158,14 @@ fn tag_of(
 // The chain along one block of the plaintext that a ciphertext gives, with counter k, and along a last part that is shorter than a block. Neither is written anywhere.
 fn open_block(
     t: &[[u32; 256]; 4],
-    ks: [[[u8; 4]; 4]; 15],
+    ks: &[[[u8; 4]; 4]; 15],
     base: [u8; 16],
     k: usize,
     y: [u8; 16],
     c: [u8; 16],
 ) -> [u8; 16]
-    requires { ⌜ Right (now t) ⌝ }
-    ensures { λ r. ⌜ r ≡ cipher ks (xors y (xors c (cipher ks (counterBlock 3 (frontOf false base) k)))) ⌝ }
+    requires { ⌜ Ready (now t) (now ks) ⌝ }
+    ensures { λ r. ⌜ r ≡ cipher (now (ks .entry)) (xors y (xors c (cipher (now (ks .entry)) (counterBlock 3 (frontOf false base) k)))) ⌝ }
 {
     let pad = aes_fast::encrypt(t, ks, counter_block(base, false, k));
     aes_fast::encrypt(t, ks, xor_blocks(y, xor_blocks(c, pad)))
@@ -173,14 +173,14 @@ fn open_block(
 
 fn open_last(
     t: &[[u32; 256]; 4],
-    ks: [[[u8; 4]; 4]; 15],
+    ks: &[[[u8; 4]; 4]; 15],
     base: [u8; 16],
     k: usize,
     y: [u8; 16],
     c: &[u8],
 ) -> [u8; 16]
-    requires { ⌜ Right (now t) × (length (now c) < 16) ⌝ }
-    ensures { λ r. ⌜ r ≡ chain (cipher ks) y (cut (ctr (cipher ks) 3 (frontOf false base) k (now (c .entry)))) ⌝ }
+    requires { ⌜ Ready (now t) (now ks) × (length (now c) < 16) ⌝ }
+    ensures { λ r. ⌜ r ≡ chain (cipher (now (ks .entry))) y (cut (ctr (cipher (now (ks .entry))) 3 (frontOf false base) k (now (c .entry)))) ⌝ }
 {
     if c.len() == 0 {
         return y;
@@ -198,13 +198,13 @@ fn open_last(
 // The same of a whole ciphertext.
 fn chain_opened(
     t: &[[u32; 256]; 4],
-    ks: [[[u8; 4]; 4]; 15],
+    ks: &[[[u8; 4]; 4]; 15],
     iv: [u8; 12],
     y: [u8; 16],
     c: &[u8],
 ) -> [u8; 16]
-    requires { ⌜ Right (now t) × (length (now c) < 16777216) ⌝ }
-    ensures { λ r. ⌜ r ≡ chain (cipher ks) y (cut (text (cipher ks) iv (now (c .entry)))) ⌝ }
+    requires { ⌜ Ready (now t) (now ks) × (length (now c) < 16777216) ⌝ }
+    ensures { λ r. ⌜ r ≡ chain (cipher (now (ks .entry))) y (cut (text (cipher (now (ks .entry))) iv (now (c .entry)))) ⌝ }
 {
     let base = base_of(iv);
     let n = c.len();
@@ -223,15 +223,15 @@ fn chain_opened(
 // Whether the tag is right. The test is lent no output: a plaintext that is not authentic has nowhere to go.
 fn authentic(
     t: &[[u32; 256]; 4],
-    ks: [[[u8; 4]; 4]; 15],
+    ks: &[[[u8; 4]; 4]; 15],
     iv: [u8; 12],
     a: &[u8],
     b: &[u8],
     c: &[u8],
     tag: &[u8],
 ) -> bool
-    requires { ⌜ Right (now t) × (length (now a) + length (now b) < 65536) × (length (now c) < 16777216) × (length (now tag) ≡ 16) ⌝ }
-    ensures { λ r. ⌜ r ≡ tagRight (cipher ks) iv (now (a .entry) ++ now (b .entry)) (now (c .entry)) (now (tag .entry)) ⌝ }
+    requires { ⌜ Ready (now t) (now ks) × (length (now a) + length (now b) < 65536) × (length (now c) < 16777216) × (length (now tag) ≡ 16) ⌝ }
+    ensures { λ r. ⌜ r ≡ tagRight (cipher (now (ks .entry))) iv (now (a .entry) ++ now (b .entry)) (now (c .entry)) (now (tag .entry)) ⌝ }
 {
     let y = chain_opened(t, ks, iv, chain_start(t, ks, iv, a, b, c.len()), c);
     same_tag(tag, xor_blocks(y, first_pad(t, ks, iv)))
@@ -243,9 +243,9 @@ fn seal(key: [u8; 32], iv: [u8; 12], a: &[u8], b: &[u8], p: &[u8], out: &mut [u8
 {
     let t = round_tables();
     let ks = expand_key(key);
-    let tag = tag_of(&t, ks, iv, a, b, p);
+    let tag = tag_of(&t, &ks, iv, a, b, p);
     let n = p.len();
-    counter(&t, ks, base_of(iv), false, 1, p, out);
+    counter(&t, &ks, base_of(iv), false, 1, p, out);
     put(&mut out[n..], &tag);
 }
 
@@ -256,8 +256,8 @@ fn open(key: [u8; 32], iv: [u8; 12], a: &[u8], b: &[u8], c: &[u8], tag: &[u8], o
 {
     let t = round_tables();
     let ks = expand_key(key);
-    let number = tag_number(authentic(&t, ks, iv, a, b, c, tag));
-    counter_if(number, &t, ks, base_of(iv), false, 1, c, out)
+    let number = tag_number(authentic(&t, &ks, iv, a, b, c, tag));
+    counter_if(number, &t, &ks, base_of(iv), false, 1, c, out)
 }
 
 // Over associated data that comes in two parts.

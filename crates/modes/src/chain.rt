@@ -7,11 +7,11 @@ ghost use Prim.Native.Nat.{_+_, _<_};
 ghost use Rattle.octets.specs.Blocks.{cut, chain};
 ghost use Rattle.octets.specs.Running.{afterByte, addAt, absorb, close};
 ghost use Rattle.aes.specs.Cipher.{cipher};
-ghost use Rattle.aes_fast.specs.Right.{Right};
+ghost use Rattle.aes_fast.specs.Right.{Ready};
 
-fn add_byte(t: &[[u32; 256]; 4], ks: [[[u8; 4]; 4]; 15], k: usize, y: [u8; 16], b: u8) -> [u8; 16]
-    requires { ⌜ Right (now t) × (k < 16) ⌝ }
-    ensures { λ r. ⌜ r ≡ afterByte (cipher ks) k (addAt k y b) ⌝ }
+fn add_byte(t: &[[u32; 256]; 4], ks: &[[[u8; 4]; 4]; 15], k: usize, y: [u8; 16], b: u8) -> [u8; 16]
+    requires { ⌜ Ready (now t) (now ks) × (k < 16) ⌝ }
+    ensures { λ r. ⌜ r ≡ afterByte (cipher (now (ks .entry))) k (addAt k y b) ⌝ }
 {
     let mut x = y;
     x[k] = x[k] ^ b;
@@ -24,13 +24,13 @@ fn add_byte(t: &[[u32; 256]; 4], ks: [[[u8; 4]; 4]; 15], k: usize, y: [u8; 16], 
 // A part, byte by byte.
 fn absorb_bytes(
     t: &[[u32; 256]; 4],
-    ks: [[[u8; 4]; 4]; 15],
+    ks: &[[[u8; 4]; 4]; 15],
     k: usize,
     y: [u8; 16],
     part: &[u8],
 ) -> [u8; 16]
-    requires { ⌜ Right (now t) × (k < 16) ⌝ }
-    ensures { λ r. ⌜ r ≡ absorb (cipher ks) k y (now (part .entry)) ⌝ }
+    requires { ⌜ Ready (now t) (now ks) × (k < 16) ⌝ }
+    ensures { λ r. ⌜ r ≡ absorb (cipher (now (ks .entry))) k y (now (part .entry)) ⌝ }
 {
     let mut x = y;
     let mut place = k;
@@ -45,9 +45,9 @@ fn absorb_bytes(
 }
 
 // A part from the start of a block: whole blocks as blocks, and the rest byte by byte.
-fn absorb_blocks(t: &[[u32; 256]; 4], ks: [[[u8; 4]; 4]; 15], y: [u8; 16], part: &[u8]) -> [u8; 16]
-    requires { ⌜ Right (now t) ⌝ }
-    ensures { λ r. ⌜ r ≡ absorb (cipher ks) 0 y (now (part .entry)) ⌝ }
+fn absorb_blocks(t: &[[u32; 256]; 4], ks: &[[[u8; 4]; 4]; 15], y: [u8; 16], part: &[u8]) -> [u8; 16]
+    requires { ⌜ Ready (now t) (now ks) ⌝ }
+    ensures { λ r. ⌜ r ≡ absorb (cipher (now (ks .entry))) 0 y (now (part .entry)) ⌝ }
 {
     let n = part.len();
     let mut x = y;
@@ -63,13 +63,13 @@ fn absorb_blocks(t: &[[u32; 256]; 4], ks: [[[u8; 4]; 4]; 15], y: [u8; 16], part:
 // A part of any length, from place k of a block: bytes up to the block's end, and the rest from the start of the next.
 pub(crate) fn absorb(
     t: &[[u32; 256]; 4],
-    ks: [[[u8; 4]; 4]; 15],
+    ks: &[[[u8; 4]; 4]; 15],
     k: usize,
     y: [u8; 16],
     part: &[u8],
 ) -> [u8; 16]
-    requires { ⌜ Right (now t) × (k < 16) ⌝ }
-    ensures { λ r. ⌜ r ≡ absorb (cipher ks) k y (now (part .entry)) ⌝ }
+    requires { ⌜ Ready (now t) (now ks) × (k < 16) ⌝ }
+    ensures { λ r. ⌜ r ≡ absorb (cipher (now (ks .entry))) k y (now (part .entry)) ⌝ }
 {
     let head = (16 - k) % 16;
     if part.len() <= head {
@@ -80,9 +80,9 @@ pub(crate) fn absorb(
 }
 
 // A block that has begun is filled with zeros.
-pub(crate) fn close(t: &[[u32; 256]; 4], ks: [[[u8; 4]; 4]; 15], k: usize, y: [u8; 16]) -> [u8; 16]
-    requires { ⌜ Right (now t) ⌝ }
-    ensures { λ r. ⌜ r ≡ close (cipher ks) k y ⌝ }
+pub(crate) fn close(t: &[[u32; 256]; 4], ks: &[[[u8; 4]; 4]; 15], k: usize, y: [u8; 16]) -> [u8; 16]
+    requires { ⌜ Ready (now t) (now ks) ⌝ }
+    ensures { λ r. ⌜ r ≡ close (cipher (now (ks .entry))) k y ⌝ }
 {
     if k == 0 {
         return y;
@@ -93,12 +93,12 @@ pub(crate) fn close(t: &[[u32; 256]; 4], ks: [[[u8; 4]; 4]; 15], k: usize, y: [u
 // The chain along a string's blocks.
 pub(crate) fn chain_along(
     t: &[[u32; 256]; 4],
-    ks: [[[u8; 4]; 4]; 15],
+    ks: &[[[u8; 4]; 4]; 15],
     y: [u8; 16],
     s: &[u8],
 ) -> [u8; 16]
-    requires { ⌜ Right (now t) ⌝ }
-    ensures { λ r. ⌜ r ≡ chain (cipher ks) y (cut (now (s .entry))) ⌝ }
+    requires { ⌜ Ready (now t) (now ks) ⌝ }
+    ensures { λ r. ⌜ r ≡ chain (cipher (now (ks .entry))) y (cut (now (s .entry))) ⌝ }
 {
     close(t, ks, s.len() % 16, absorb_blocks(t, ks, y, s))
 }

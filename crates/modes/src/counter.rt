@@ -13,7 +13,7 @@ ghost use Rattle.octets.specs.Blocks.{blocks};
 ghost use Rattle.octets.specs.Lent.{over, answer};
 ghost use Rattle.octets.specs.Xor.{xors};
 ghost use Rattle.aes.specs.Cipher.{cipher};
-ghost use Rattle.aes_fast.specs.Right.{Right};
+ghost use Rattle.aes_fast.specs.Right.{Ready};
 ghost use Rattle.modes.specs.Counter.{counterBlock, ctr, counterFits, counterAnswer, width, frontOf};
 
 pub(crate) fn counter_block(base: [u8; 16], wide: bool, i: usize) -> [u8; 16]
@@ -90,15 +90,15 @@ fn add_last(text: &[u8], pad: [u8; 16], out: &mut [u8])
 // Two blocks of the text, with the pads of counters k and k + 1.
 fn add_pair(
     t: &[[u32; 256]; 4],
-    ks: [[[u8; 4]; 4]; 15],
+    ks: &[[[u8; 4]; 4]; 15],
     base: [u8; 16],
     wide: bool,
     k: usize,
     text: &[u8],
     out: &mut [u8],
 )
-    requires { ⌜ Right (now t) × (length (now text) ≡ 32) × (length (now out) ≡ 32) × (k < 18446744073709551615) ⌝ }
-    ensures { λ _. ⌜ now (out .exit) ≡ ctr (cipher ks) (width wide) (frontOf wide base) k (now (text .entry)) ⌝ }
+    requires { ⌜ Ready (now t) (now ks) × (length (now text) ≡ 32) × (length (now out) ≡ 32) × (k < 18446744073709551615) ⌝ }
+    ensures { λ _. ⌜ now (out .exit) ≡ ctr (cipher (now (ks .entry))) (width wide) (frontOf wide base) k (now (text .entry)) ⌝ }
 {
     let start = 0;
     let middle = 16;
@@ -117,15 +117,15 @@ fn add_pair(
 // The whole text, two blocks at a time and the rest a block at a time.
 fn run(
     t: &[[u32; 256]; 4],
-    ks: [[[u8; 4]; 4]; 15],
+    ks: &[[[u8; 4]; 4]; 15],
     base: [u8; 16],
     wide: bool,
     i: usize,
     text: &[u8],
     out: &mut [u8],
 )
-    requires { ⌜ Right (now t) × (length (now text) ≤ length (now out)) × (i ≤ 2) ⌝ }
-    ensures { λ _. ⌜ now (out .exit) ≡ over (ctr (cipher ks) (width wide) (frontOf wide base) i (now (text .entry))) (now (out .entry)) ⌝ }
+    requires { ⌜ Ready (now t) (now ks) × (length (now text) ≤ length (now out)) × (i ≤ 2) ⌝ }
+    ensures { λ _. ⌜ now (out .exit) ≡ over (ctr (cipher (now (ks .entry))) (width wide) (frontOf wide base) i (now (text .entry))) (now (out .entry)) ⌝ }
 {
     let n = text.len();
     let mut at = 0;
@@ -148,15 +148,15 @@ fn run(
 // The text added to the key stream from counter i on, over the front of the output; 11, and nothing written, where the field would run over.
 pub(crate) fn counter(
     t: &[[u32; 256]; 4],
-    ks: [[[u8; 4]; 4]; 15],
+    ks: &[[[u8; 4]; 4]; 15],
     base: [u8; 16],
     wide: bool,
     i: usize,
     text: &[u8],
     out: &mut [u8],
 ) -> u8
-    requires { ⌜ Right (now t) × (length (now text) ≤ length (now out)) × (i ≤ 2) ⌝ }
-    ensures { λ r. ⌜ counterAnswer (cipher ks) (width wide) (frontOf wide base) i (now (text .entry)) (now (out .entry)) ≡ (r, now (out .exit)) ⌝ }
+    requires { ⌜ Ready (now t) (now ks) × (length (now text) ≤ length (now out)) × (i ≤ 2) ⌝ }
+    ensures { λ r. ⌜ counterAnswer (cipher (now (ks .entry))) (width wide) (frontOf wide base) i (now (text .entry)) (now (out .entry)) ≡ (r, now (out .exit)) ⌝ }
 {
     if runs_over(wide, i, text.len()) {
         return 11;
@@ -169,15 +169,15 @@ pub(crate) fn counter(
 pub(crate) fn counter_if(
     number: u8,
     t: &[[u32; 256]; 4],
-    ks: [[[u8; 4]; 4]; 15],
+    ks: &[[[u8; 4]; 4]; 15],
     base: [u8; 16],
     wide: bool,
     i: usize,
     text: &[u8],
     out: &mut [u8],
 ) -> u8
-    requires { ⌜ Right (now t) × (length (now text) ≤ length (now out)) × (i ≤ 2) × (counterFits (width wide) i (length (now text)) ≡ true) ⌝ }
-    ensures { λ r. ⌜ answer number (ctr (cipher ks) (width wide) (frontOf wide base) i (now (text .entry))) (now (out .entry)) ≡ (r, now (out .exit)) ⌝ }
+    requires { ⌜ Ready (now t) (now ks) × (length (now text) ≤ length (now out)) × (i ≤ 2) × (counterFits (width wide) i (length (now text)) ≡ true) ⌝ }
+    ensures { λ r. ⌜ answer number (ctr (cipher (now (ks .entry))) (width wide) (frontOf wide base) i (now (text .entry))) (now (out .entry)) ≡ (r, now (out .exit)) ⌝ }
 {
     if number < 1 {
         counter(t, ks, base, wide, i, text, out);

@@ -25,7 +25,7 @@ ghost use Rattle.octets.specs.BigEndian.{be};
 ghost use Rattle.octets.specs.Lent.{lowest, over, answer};
 ghost use Rattle.aes.specs.Cipher.{cipher};
 ghost use Rattle.aes.specs.KeyExpansion.{schedule};
-ghost use Rattle.aes_fast.specs.Right.{Right};
+ghost use Rattle.aes_fast.specs.Right.{Ready};
 ghost use Rattle.modes.specs.Mode.{sealed};
 ghost use Rattle.modes.specs.Gcm.{text, tagOf, tagRight, gcm};
 ghost use Rattle.modes.specs.Calls.{encryptAnswer, decryptAnswer};
@@ -84,14 +84,14 @@ fn lengths_block(a_len: usize, c_len: usize) -> [u8; 16]
 // The tag of a ciphertext. The associated data is a and then b.
 fn tag_of(
     t: &[[u32; 256]; 4],
-    ks: [[[u8; 4]; 4]; 15],
+    ks: &[[[u8; 4]; 4]; 15],
     iv: [u8; 12],
     a: &[u8],
     b: &[u8],
     c: &[u8],
 ) -> [u8; 16]
-    requires { ⌜ Right (now t) × (length (now a) + length (now b) ≤ 4152) × (length (now c) ≤ 1048576) ⌝ }
-    ensures { λ r. ⌜ r ≡ tagOf (cipher ks) iv (now (a .entry) ++ now (b .entry)) (now (c .entry)) ⌝ }
+    requires { ⌜ Ready (now t) (now ks) × (length (now a) + length (now b) ≤ 4152) × (length (now c) ≤ 1048576) ⌝ }
+    ensures { λ r. ⌜ r ≡ tagOf (cipher (now (ks .entry))) iv (now (a .entry) ++ now (b .entry)) (now (c .entry)) ⌝ }
 {
     let h = aes_fast::encrypt(t, ks, [0u8; 16]);
     let last = lengths_block(a.len() + b.len(), c.len());
@@ -103,15 +103,15 @@ fn tag_of(
 // Whether the tag is right. The test is lent no output.
 fn authentic(
     t: &[[u32; 256]; 4],
-    ks: [[[u8; 4]; 4]; 15],
+    ks: &[[[u8; 4]; 4]; 15],
     iv: [u8; 12],
     a: &[u8],
     b: &[u8],
     c: &[u8],
     tag: &[u8],
 ) -> bool
-    requires { ⌜ Right (now t) × (length (now a) + length (now b) ≤ 4152) × (length (now c) ≤ 1048576) × (length (now tag) ≡ 16) ⌝ }
-    ensures { λ r. ⌜ r ≡ tagRight (cipher ks) iv (now (a .entry) ++ now (b .entry)) (now (c .entry)) (now (tag .entry)) ⌝ }
+    requires { ⌜ Ready (now t) (now ks) × (length (now a) + length (now b) ≤ 4152) × (length (now c) ≤ 1048576) × (length (now tag) ≡ 16) ⌝ }
+    ensures { λ r. ⌜ r ≡ tagRight (cipher (now (ks .entry))) iv (now (a .entry) ++ now (b .entry)) (now (c .entry)) (now (tag .entry)) ⌝ }
 {
     same_tag(tag, tag_of(t, ks, iv, a, b, c))
 }
@@ -123,8 +123,8 @@ fn seal(key: [u8; 32], iv: [u8; 12], a: &[u8], b: &[u8], p: &[u8], out: &mut [u8
     let t = round_tables();
     let ks = expand_key(key);
     let n = p.len();
-    counter(&t, ks, base_of(iv), true, 2, p, out);
-    let tag = tag_of(&t, ks, iv, a, b, &out[..n]);
+    counter(&t, &ks, base_of(iv), true, 2, p, out);
+    let tag = tag_of(&t, &ks, iv, a, b, &out[..n]);
     put(&mut out[n..], &tag);
 }
 
@@ -135,8 +135,8 @@ fn open(key: [u8; 32], iv: [u8; 12], a: &[u8], b: &[u8], c: &[u8], tag: &[u8], o
 {
     let t = round_tables();
     let ks = expand_key(key);
-    let number = tag_number(authentic(&t, ks, iv, a, b, c, tag));
-    counter_if(number, &t, ks, base_of(iv), true, 2, c, out)
+    let number = tag_number(authentic(&t, &ks, iv, a, b, c, tag));
+    counter_if(number, &t, &ks, base_of(iv), true, 2, c, out)
 }
 
 // Over associated data that comes in two parts.

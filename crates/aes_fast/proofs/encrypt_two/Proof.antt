@@ -7,7 +7,6 @@ use lib.ListN.{getD}
 use Rattle.octets.proofs.Arrays.{arrays-bytes}
 use Rattle.aes.specs.State.{State}
 use Rattle.aes_fast.proofs.Steps.{cipherBy-steps}
-use Rattle.aes_fast.proofs.Parameters.{array-keys}
 use Rattle.aes_fast.proofs.Cipher.{ciphered-two}
 use Rattle.aes_fast.proofs.encrypt_two.Statement.{statement}
 use Rattle.aes_fast.proofs.encrypt_two.Tie as tie
@@ -26,7 +25,7 @@ returns c =
     let bytes = arrays-bytes 16 2 (start .args .t3) _ (start .good .1 .1 .0) in
     let one = ap (λ (l : List State). getD l 0 []) (both .all-rounds-two .ensures) in
     let other = ap (λ (l : List State). getD l 1 []) (both .all-rounds-two .ensures) in
-    ciphered-two _ _ (array-keys (start .args .t2) _ (start .good .1 .0)) (bytes 0) (bytes 1)
+    ciphered-two _ _ (bytes 0) (bytes 1)
     (cipherBy-steps _ _ _ _ _ _ _ _ (loaded .load .ensures) (added .add-round-key .ensures) one (last .last-round .ensures) (stored .store .ensures))
     (cipherBy-steps _ _ _ _ _ _ _ _ (loaded2 .load2 .ensures) (added2 .add-round-key2 .ensures) other (last2 .last-round2 .ensures) (c .store2 .ensures))
 

@@ -21,9 +21,9 @@ returns c =
     let begun = along .before in
     let start = begun .before .before .before .before .before in
     let a = start .args in
-    let F = cipher (a .ks) in
+    let F = cipher (a .ks .now) in
     let ab = a .a .now ++ a .b .now in
-    let size = cipher-length (a .ks) in
+    let size = cipher-length (a .ks .now) in
     c .same-tag .ensures
     ∙ ap (same (a .tag .now))
     (tag-steps F size (a .iv) ab (text F (a .iv) (a .c .now)) _ _ _ _

@@ -10,7 +10,7 @@ use Rattle.modes.proofs.ccm.chain_data.Tie as tie
 returns : tie.Need-returns
 returns c =
     let a = c .before .before .before .args in
-    data-none (cipher (a .ks)) (a .y) (a .a .now) (a .b .now) (c .if1 .taken)
+    data-none (cipher (a .ks .now)) (a .y) (a .a .now) (a .b .now) (c .if1 .taken)
 
 returns-2 : tie.Need-returns-2
 returns-2 c =
@@ -20,7 +20,7 @@ returns-2 c =
     let tested = sized .before in
     let start = tested .before .before .before in
     let a = start .args in
-    data-steps (cipher (a .ks)) (cipher-length (a .ks)) (a .y) (a .a .now) (a .b .now) _ _ _ _ _ (start .good .1 .1 .0 .1 .0 .1) (tested .if1 .left)
+    data-steps (cipher (a .ks .now)) (cipher-length (a .ks .now)) (a .y) (a .a .now) (a .b .now) _ _ _ _ _ (start .good .1 .1 .0 .1 .0 .1) (tested .if1 .left)
     (sized .bytes16 .ensures) (first .before .absorb .ensures) (first .absorb2 .ensures) (second .absorb3 .ensures) (c .close .ensures)
 
 pub chain-data-spec : {M : Type 1} → statement M

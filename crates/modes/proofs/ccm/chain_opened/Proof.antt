@@ -39,12 +39,12 @@ loop-again c =
     let l = at-loop .loop in
     let base = at-loop .before .base-of .result in
     let a = at-loop .before .before .before .args in
-    let F = cipher (a .ks) in (
+    let F = cipher (a .ks .now) in (
       omega arith,
       omega arith,
       ap (λ (y : List ℕ). chain F y (cut (ctr F 3 (frontOf false base) (l .k + 1) (drop (l .at + 16) (a .c .now)))))
           (c .open-block .ensures ∙ ap (λ (b : List ℕ). F (xors (l .x) (xors b (F (counterBlock 3 (frontOf false base) (l .k)))))) (c .before .block-at .ensures))
-          ∙ opened-turn F (cipher-length (a .ks)) 3 (frontOf false base) (l .x) (a .c .now) (l .k) (l .at) (omega arith) ∙ l .inv .2,
+          ∙ opened-turn F (cipher-length (a .ks .now)) 3 (frontOf false base) (l .x) (a .c .now) (l .k) (l .at) (omega arith) ∙ l .inv .2,
     )
 
 open-last-requires : tie.Need-open-last-requires Inv-loop μ-loop
@@ -58,7 +58,7 @@ returns c =
     let base = at-loop .before .base-of in
     let start = at-loop .before .before .before in
     let a = start .args in
-    let F = cipher (a .ks) in
+    let F = cipher (a .ks .now) in
     c .open-last .ensures
     ∙ ap (λ (s : List ℕ). chain F (l .x) (cut (ctr F 3 (frontOf false (base .result)) (l .k) s))) (rest-all (a .c .now) (l .at))
     ∙ l .inv .2

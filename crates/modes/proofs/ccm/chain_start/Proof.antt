@@ -17,9 +17,9 @@ returns c =
     let start = begun .before .before .before .before in
     let a = start .args in
     c .chain-data .ensures
-    ∙ ap (λ (y : List ℕ). chain (cipher (a .ks)) y (dataBlocks (a .a .now ++ a .b .now)))
+    ∙ ap (λ (y : List ℕ). chain (cipher (a .ks .now)) y (dataBlocks (a .a .now ++ a .b .now)))
     (begun .encrypt .ensures .by-cipher (start .pre .0)
-    ∙ ap (cipher (a .ks)) (begun .before .first-block .ensures ∙ firstBlock-parts (a .iv) (a .a .now) (a .b .now) (a .n)))
+    ∙ ap (cipher (a .ks .now)) (begun .before .first-block .ensures ∙ firstBlock-parts (a .iv) (a .a .now) (a .b .now) (a .n)))
 
 pub chain-start-spec : {M : Type 1} → statement M
 chain-start-spec =

@@ -17,7 +17,7 @@ returns c =
     let base = block .before in
     let start = base .before in
     c .encrypt .ensures .by-cipher (start .pre)
-    ∙ ap (cipher (start .args .ks))
+    ∙ ap (cipher (start .args .ks .now))
     (block .counter-block .ensures
     ∙ ap (λ (l : List ℕ). counterBlock 3 l 0) (ap (frontOf false) (base .base-of .ensures) ∙ front-base (start .args .iv) (start .good .1 .1 .0 .1 .0 .1)))
 

@@ -8,34 +8,43 @@ use Prim.Native.Nat.{ℕ}
 use native.Mathlib.Omega.{arith}
 use borrow.Author.Needs.{needs}
 use Rattle.octets.specs.Lent.{lowest, answer}
+use Rattle.octets.proofs.Arrays.{array-bytes}
 use Rattle.aes.specs.State.{State}
 use Rattle.aes.specs.Cipher.{cipher}
 use Rattle.aes.proofs.Laws.{cipher-length}
-use Rattle.aes_fast.proofs.Laws.{roundTables-right}
+use Rattle.aes_fast.specs.Right.{Ready}
+use Rattle.aes_fast.proofs.Laws.{made-ready}
 use Rattle.modes.specs.Ccm.{text, tagRight}
 use Rattle.modes.proofs.Limits.{counterFits-three}
 use Rattle.modes.proofs.Formatted.{text-counted}
 use Rattle.modes.proofs.ccm.open.Statement.{statement}
 use Rattle.modes.proofs.ccm.open.Tie as tie
 
+-- under the schedule of the key
+ready : (c : tie.After-expand-key) → Ready (c .before .round-tables .result) (c .expand-key .result)
+ready c =
+    let start = c .before .before .before .before .before .before .before in
+    made-ready _ _ (start .args .key) (c .before .round-tables .ensures) (c .expand-key .ensures) (array-bytes 32 (start .args .key) _ (start .good .0))
+
 authentic-requires : tie.Need-authentic-requires
 authentic-requires c κs =
-    let start = c .before .before .before .before .before .before .before .before in
-    (rw (c .before .before .round-tables .ensures) roundTables-right, omega arith, omega arith, start .pre .2)
+    let made = c .before .before in
+    let start = made .before .before .before .before .before .before .before in
+    (ready made, omega arith, omega arith, start .pre .2)
 
 counter-if-requires : tie.Need-counter-if-requires
 counter-if-requires c κs =
-    let made = c .before .before .before .before .before .before .before in
-    let start = made .before .before .before .before .before .before in
-    (rw (made .round-tables .ensures) roundTables-right, omega arith, omega arith, counterFits-three _ _ (lit≤ tt) (start .pre .1))
+    let made = c .before .before .before .before .before .before .before .before in
+    let start = made .before .before .before .before .before .before .before in
+    (ready made, omega arith, omega arith, counterFits-three _ _ (lit≤ tt) (start .pre .1))
 
 returns : tie.Need-returns
 returns c =
     let written = c .before .before in
     let base = written .before .before in
-    let numbered = base .before .before in
+    let numbered = base .before .before .before in
     let tested = numbered .before in
-    let made = tested .before .before in
+    let made = tested .before .before .before in
     let start = made .before .before .before .before .before .before .before in
     let a = start .args in
     let F = cipher (made .expand-key .result) in

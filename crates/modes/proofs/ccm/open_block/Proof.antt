@@ -14,11 +14,11 @@ returns c =
     let start = padded .before .before in
     let a = start .args in
     c .encrypt2 .ensures .by-cipher (start .pre)
-    ∙ ap (cipher (a .ks))
+    ∙ ap (cipher (a .ks .now))
     (c .before .xor-blocks2 .ensures
     ∙ ap (xors (a .y))
     (opened .xor-blocks .ensures
-    ∙ ap (xors (a .c)) (padded .encrypt .ensures .by-cipher (start .pre) ∙ ap (cipher (a .ks)) (padded .before .counter-block .ensures))))
+    ∙ ap (xors (a .c)) (padded .encrypt .ensures .by-cipher (start .pre) ∙ ap (cipher (a .ks .now)) (padded .before .counter-block .ensures))))
 
 pub open-block-spec : {M : Type 1} → statement M
 open-block-spec =

@@ -25,7 +25,7 @@ abbrev μ-loop : tie.MeasureT-loop
 returns : tie.Need-returns Inv-loop μ-loop
 returns c =
     let a = c .before .before .args in
-    opened-none (cipher (a .ks)) (cipher-length (a .ks)) 3 (frontOf false (a .base)) (a .y) (a .c .now) (a .k) (c .if1 .taken)
+    opened-none (cipher (a .ks .now)) (cipher-length (a .ks .now)) 3 (frontOf false (a .base)) (a .y) (a .c .now) (a .k) (c .if1 .taken)
 
 loop-holds : tie.Need-loop-holds Inv-loop μ-loop
 loop-holds c = (omega arith, c .before .before .before .before .good .1 .1 .1 .1 .0 .1 .0 .1, refl)
@@ -46,11 +46,11 @@ returns-2 c =
     let padded = c .before .before .before in
     let start = padded .before .before .before .before in
     let a = start .args in
-    let F = cipher (a .ks) in
+    let F = cipher (a .ks .now) in
     c .encrypt2 .ensures .by-cipher (start .pre .0)
     ∙ ap F (sym (sum-end (l .x) (a .c .now) (padded .encrypt .result) (l .j) (l .inv .1) (padded .encrypt .ok .1 .0 .1) (omega arith) (omega arith) (omega arith)) ∙ l .inv .2)
     ∙ ap (λ (q : List ℕ). F (addFrom 0 (a .y) (xors (a .c .now) q))) (padded .encrypt .ensures .by-cipher (start .pre .0) ∙ ap F (padded .before .counter-block .ensures))
-    ∙ opened-last F (cipher-length (a .ks)) 3 (frontOf false (a .base)) (a .y) (a .c .now) (a .k) (padded .before .before .if1 .left) (start .pre .1)
+    ∙ opened-last F (cipher-length (a .ks .now)) 3 (frontOf false (a .base)) (a .y) (a .c .now) (a .k) (padded .before .before .if1 .left) (start .pre .1)
 
 pub open-last-spec : {M : Type 1} → statement M
 open-last-spec =

@@ -14,7 +14,7 @@ returns c =
     let along = padded .before in
     let begun = along .before in
     let a = begun .before .before .before .before .args in
-    tag-steps (cipher (a .ks)) (cipher-length (a .ks)) (a .iv) (a .a .now ++ a .b .now) (a .p .now) _ _ _ _
+    tag-steps (cipher (a .ks .now)) (cipher-length (a .ks .now)) (a .iv) (a .a .now ++ a .b .now) (a .p .now) _ _ _ _
     (begun .chain-start .ensures) (along .chain-along .ensures) (padded .first-pad .ensures) (c .xor-blocks .ensures)
 
 pub tag-of-spec : {M : Type 1} → statement M

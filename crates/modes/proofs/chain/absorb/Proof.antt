@@ -18,8 +18,8 @@ returns-2 c =
     let a = start .args in
     let n = (16 - a .k) % 16 in
     c .absorb-blocks .ensures
-    ∙ ap₂ (absorb (cipher (a .ks)) 0) (head-done .absorb-bytes2 .ensures) (rest-all (a .part .now) n)
-    ∙ absorb-to-block (cipher (a .ks)) (a .k) (a .y) (a .part .now) n (start .pre .1) refl (omega arith)
+    ∙ ap₂ (absorb (cipher (a .ks .now)) 0) (head-done .absorb-bytes2 .ensures) (rest-all (a .part .now) n)
+    ∙ absorb-to-block (cipher (a .ks .now)) (a .k) (a .y) (a .part .now) n (start .pre .1) refl (omega arith)
 
 pub absorb-spec : {M : Type 1} → statement M
 absorb-spec =

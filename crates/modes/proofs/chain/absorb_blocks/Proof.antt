@@ -31,9 +31,9 @@ loop-again c =
     let a = start .args in (
       omega arith,
       c .encrypt .ok .1 .0 .1,
-      ap (λ (x : List ℕ). absorb (cipher (a .ks)) 0 x (drop (l .at + 16) (a .part .now)))
-          (c .encrypt .ensures .by-cipher (start .pre) ∙ ap (cipher (a .ks)) (c .before .xor-blocks .ensures ∙ ap (xors (l .x)) (c .before .before .block-at .ensures)))
-          ∙ absorb-block-turn (cipher (a .ks)) (l .x) (a .part .now) (l .at) (l .inv .1) (omega arith) ∙ l .inv .2,
+      ap (λ (x : List ℕ). absorb (cipher (a .ks .now)) 0 x (drop (l .at + 16) (a .part .now)))
+          (c .encrypt .ensures .by-cipher (start .pre) ∙ ap (cipher (a .ks .now)) (c .before .xor-blocks .ensures ∙ ap (xors (l .x)) (c .before .before .block-at .ensures)))
+          ∙ absorb-block-turn (cipher (a .ks .now)) (l .x) (a .part .now) (l .at) (l .inv .1) (omega arith) ∙ l .inv .2,
     )
 
 absorb-bytes-requires : tie.Need-absorb-bytes-requires Inv-loop μ-loop
@@ -43,7 +43,7 @@ returns : tie.Need-returns Inv-loop μ-loop
 returns c =
     let l = c .before .before .before .loop in
     let a = c .before .before .before .before .before .args in
-    c .absorb-bytes .ensures ∙ ap (absorb (cipher (a .ks)) 0 (l .x)) (rest-all (a .part .now) (l .at)) ∙ l .inv .2
+    c .absorb-bytes .ensures ∙ ap (absorb (cipher (a .ks .now)) 0 (l .x)) (rest-all (a .part .now) (l .at)) ∙ l .inv .2
 
 pub absorb-blocks-spec : {M : Type 1} → statement M
 absorb-blocks-spec =

@@ -32,15 +32,15 @@ loop-again c =
     let a = at-loop .before .before .args in (
       omega arith,
       omega arith,
-      ap (λ (x : List ℕ). absorb (cipher (a .ks)) ((l .place + 1) % 16) x (drop (l .j + 1) (a .part .now))) (c .add-byte .ensures)
-          ∙ sym (absorb-turn (cipher (a .ks)) (l .place) (l .x) (a .part .now) (l .j) (omega arith)) ∙ l .inv .2,
+      ap (λ (x : List ℕ). absorb (cipher (a .ks .now)) ((l .place + 1) % 16) x (drop (l .j + 1) (a .part .now))) (c .add-byte .ensures)
+          ∙ sym (absorb-turn (cipher (a .ks .now)) (l .place) (l .x) (a .part .now) (l .j) (omega arith)) ∙ l .inv .2,
     )
 
 returns : tie.Need-returns Inv-loop μ-loop
 returns c =
     let l = c .before .loop in
     let a = c .before .before .before .args in
-    sym (absorb-end (cipher (a .ks)) (l .place) (l .x) (a .part .now) (l .j) (omega arith)) ∙ l .inv .2
+    sym (absorb-end (cipher (a .ks .now)) (l .place) (l .x) (a .part .now) (l .j) (omega arith)) ∙ l .inv .2
 
 pub absorb-bytes-spec : {M : Type 1} → statement M
 absorb-bytes-spec =

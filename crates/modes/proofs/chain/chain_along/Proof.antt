@@ -16,8 +16,8 @@ returns c =
     let start = c .before .before .before in
     let a = start .args in
     c .close .ensures
-    ∙ ap (close (cipher (a .ks)) (length (a .s .now) % 16)) (c .before .absorb-blocks .ensures)
-    ∙ close-chain (cipher (a .ks)) (a .y) (a .s .now) (start .good .1 .1 .0 .1 .0 .1) (cipher-length (a .ks))
+    ∙ ap (close (cipher (a .ks .now)) (length (a .s .now) % 16)) (c .before .absorb-blocks .ensures)
+    ∙ close-chain (cipher (a .ks .now)) (a .y) (a .s .now) (start .good .1 .1 .0 .1 .0 .1) (cipher-length (a .ks .now))
 
 pub chain-along-spec : {M : Type 1} → statement M
 chain-along-spec = tie.close (tie.spec (λ c κs. search needs) (λ c κs. search needs) returns)

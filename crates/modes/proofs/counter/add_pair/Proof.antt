@@ -26,11 +26,11 @@ returns c =
     let start = counter1 .before .before .before in
     let a = start .args in
     let pads = ciphered .encrypt-two .ensures .by-cipher (start .pre .0) in
-    ctr-pair (cipher (a .ks)) (cipher-length (a .ks)) _ _ (a .k) (a .text .now) (a .out .now) _ _ _ _ (start .pre .1) (start .pre .2)
+    ctr-pair (cipher (a .ks .now)) (cipher-length (a .ks .now)) _ _ (a .k) (a .text .now) (a .out .now) _ _ _ _ (start .pre .1) (start .pre .2)
     (added1 .xor-blocks .ensures
-    ∙ ap₂ xors (read1 .block-at .ensures) (ap (λ (l : List (List ℕ)). getD l 0 []) pads ∙ ap (cipher (a .ks)) (counter1 .counter-block .ensures)))
+    ∙ ap₂ xors (read1 .block-at .ensures) (ap (λ (l : List (List ℕ)). getD l 0 []) pads ∙ ap (cipher (a .ks .now)) (counter1 .counter-block .ensures)))
     (added2 .xor-blocks2 .ensures
-    ∙ ap₂ xors (read2 .block-at2 .ensures) (ap (λ (l : List (List ℕ)). getD l 1 []) pads ∙ ap (cipher (a .ks)) (counter2 .counter-block2 .ensures)))
+    ∙ ap₂ xors (read2 .block-at2 .ensures) (ap (λ (l : List (List ℕ)). getD l 1 []) pads ∙ ap (cipher (a .ks .now)) (counter2 .counter-block2 .ensures)))
     (first .put .ensures) (second .put2 .ensures)
 
 pub add-pair-spec : {M : Type 1} → statement M

@@ -44,7 +44,7 @@ loop-again c =
     let at-loop = pair .before .before .before .before in
     let start = at-loop .before .before .before in
     let l = at-loop .loop in
-    partly-turn (l .inv) (start .pre .1) (cipher-length (start .args .ks)) 2 (l .at + 32) (omega arith) (omega arith) (λ h. omega arith)
+    partly-turn (l .inv) (start .pre .1) (cipher-length (start .args .ks .now)) 2 (l .at + 32) (omega arith) (omega arith) (λ h. omega arith)
     (pair .add-pair .ensures)
 
 loop2-holds : tie.Need-loop2-holds Inv-loop μ-loop Inv-loop2 μ-loop2
@@ -73,16 +73,16 @@ loop2-again c =
     let l = at-loop .loop2 in
     let e = ended .block-end .result in
     let part = take (e - l .at) (drop (l .at) (a .text .now)) in
-    let pad = ciphered .encrypt .ensures .by-cipher (start .pre .0) ∙ ap (cipher (a .ks)) (counter .counter-block .ensures) in
+    let pad = ciphered .encrypt .ensures .by-cipher (start .pre .0) ∙ ap (cipher (a .ks .now)) (counter .counter-block .ensures) in
     let short : length part ≤ 16 = omega (arith, part-length (a .text .now) (l .at) e (omega arith)) in
-    partly-turn (l .inv) (omega arith) (cipher-length (a .ks)) 1 e (omega arith) (omega arith) (λ h. omega arith)
-    (last .add-last .ensures ∙ ap (xors part) pad ∙ sym (ctr-last (cipher (a .ks)) (cipher-length (a .ks)) _ _ (l .k) part short))
+    partly-turn (l .inv) (omega arith) (cipher-length (a .ks .now)) 1 e (omega arith) (omega arith) (λ h. omega arith)
+    (last .add-last .ensures ∙ ap (xors part) pad ∙ sym (ctr-last (cipher (a .ks .now)) (cipher-length (a .ks .now)) _ _ (l .k) part short))
 
 returns : tie.Need-returns Inv-loop μ-loop Inv-loop2 μ-loop2
 returns c =
     let pairs = c .before .before .before in
     let start = pairs .before .before .before in
-    let size = cipher-length (start .args .ks) in
+    let size = cipher-length (start .args .ks .now) in
     partly-end (c .before .loop2 .inv) (omega arith) size (c .loop2-test .left) ∙ partly-over (pairs .loop .inv) (start .pre .1) size
 
 pub run-spec : {M : Type 1} → statement M

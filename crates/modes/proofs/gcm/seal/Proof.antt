@@ -7,32 +7,39 @@ use native.Mathlib.Omega.{arith}
 use borrow.Author.Needs.{needs}
 use lib.ListN.{length, length-take}
 use Rattle.octets.specs.Lent.{over}
+use Rattle.octets.proofs.Arrays.{array-bytes}
 use Rattle.aes.specs.State.{State}
 use Rattle.aes.specs.Cipher.{cipher}
 use Rattle.aes.proofs.Laws.{cipher-length}
-use Rattle.aes_fast.proofs.Laws.{roundTables-right}
+use Rattle.aes_fast.specs.Right.{Ready}
+use Rattle.aes_fast.proofs.Laws.{made-ready}
 use Rattle.modes.specs.Gcm.{text, tagOf}
 use Rattle.modes.proofs.Tagged.{length-text, counter-text}
 use Rattle.modes.proofs.Sealed.{over-front, over-then}
 use Rattle.modes.proofs.gcm.seal.Statement.{statement}
 use Rattle.modes.proofs.gcm.seal.Tie as tie
 
+-- under the schedule of the key
+ready : (c : tie.After-expand-key) → Ready (c .before .round-tables .result) (c .expand-key .result)
+ready c =
+    let start = c .before .before .before .before .before .before in
+    made-ready _ _ (start .args .key) (c .before .round-tables .ensures) (c .expand-key .ensures) (array-bytes 32 (start .args .key) _ (start .good .0))
+
 counter-requires : tie.Need-counter-requires
-counter-requires c κs = (rw (c .before .before .before .before .round-tables .ensures) roundTables-right, omega arith, omega arith)
+counter-requires c κs = (ready (c .before .before .before .before), omega arith, omega arith)
 
 slice-aggregate-tag-of : tie.Need-slice-aggregate-tag-of
 slice-aggregate-tag-of c = simp length-take (omega arith)
 
 tag-of-requires : tie.Need-tag-of-requires
-tag-of-requires c κs =
-    (rw (c .before .before .before .before .before .before .before .before .before .round-tables .ensures) roundTables-right, omega arith, simp length-take (omega arith))
+tag-of-requires c κs = (ready (c .before .before .before .before .before .before .before .before .before .before), omega arith, simp length-take (omega arith))
 
 returns : tie.Need-returns
 returns c =
     let tagged = c .before .before .before .before .before in
-    let ran = tagged .before .before .before .before .before in
+    let ran = tagged .before .before .before .before .before .before in
     let base = ran .before .before in
-    let made = base .before .before in
+    let made = base .before .before .before in
     let start = made .before .before .before .before .before .before in
     let a = start .args in
     let F = cipher (made .expand-key .result) in

@@ -16,7 +16,7 @@ returns c =
     let key = last .before in
     let start = key .before .before .before .before in
     let a = start .args in
-    tag-steps (cipher (a .ks)) (a .iv) (a .a .now) (a .b .now) (a .c .now) _ _ _ _ _ _ _ (start .good .1 .1 .0 .1 .0 .1)
+    tag-steps (cipher (a .ks .now)) (a .iv) (a .a .now) (a .b .now) (a .c .now) _ _ _ _ _ _ _ (start .good .1 .1 .0 .1 .0 .1)
     (key .encrypt .ensures .by-cipher (start .pre .0)) (last .lengths-block .ensures) (hashed .ghash-parts .ensures)
     (base .base-of .ensures) (block .counter-block .ensures) (padded .encrypt2 .ensures .by-cipher (start .pre .0)) (c .xor-blocks .ensures)
 

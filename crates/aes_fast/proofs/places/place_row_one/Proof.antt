@@ -1,0 +1,17 @@
+-- `aes_fast::places::place_row_one` meets its contract: the code is the definition.
+-- Assumes nothing.
+use borrow.Author.Needs.{needs}
+use Rattle.aes_fast.specs.ByTables.{columnFrom}
+use Rattle.aes_fast.proofs.places.place_row_one.Statement.{statement}
+use Rattle.aes_fast.proofs.places.place_row_one.Tie as tie
+
+returns : tie.Need-returns
+unfolding columnFrom
+returns c = search needs
+
+pub place-row-one-spec : {M : Type 1} → statement M
+place-row-one-spec =
+    tie.close
+    (tie.spec
+    (λ c. search needs) (λ c. search needs) (λ c. search needs) (λ c. search needs)
+    returns)
