@@ -8,8 +8,8 @@
 
 #define STRINGS 8
 
-/* What a call shows: the output it was lent, the block it changed, the number it stored, or nothing. */
-enum shows { OUTPUT, BLOCK, STORED, NOTHING };
+/* What a call shows, each or none: the output it was lent, the block it changed, the number it stored. */
+enum { NOTHING = 0, OUTPUT = 1, BLOCK = 2, STORED = 4 };
 
 static uint8_t *strings[STRINGS], *out;
 static size_t lengths[STRINGS], out_len;
@@ -30,12 +30,11 @@ static void take(char *word, int i)
 
 static void show(const uint8_t *bytes, size_t n)
 {
-    if (n == 0)
-        fputs(" -", stdout);
-    else
-        putchar(' ');
-    for (size_t i = 0; i < n; i++)
-        printf("%02x", bytes[i]);
+    fputs(n == 0 ? " -" : " ", stdout);
+    for (size_t i = 0; i < n; i++) {
+        putchar_unlocked("0123456789abcdef"[bytes[i] / 16]);
+        putchar_unlocked("0123456789abcdef"[bytes[i] % 16]);
+    }
 }
 
 #define S(i) strings[i], lengths[i]
@@ -50,11 +49,14 @@ static uint8_t wrap(void) { return spadeswirl_wrap(S(0), S(1), out, out_len); }
 static uint8_t unwrap(void) { return spadeswirl_unwrap(S(0), S(1), out, out_len); }
 static uint8_t table_check(void) { return spadeswirl_table_check(S(0)); }
 static uint8_t find(void) { return spadeswirl_find(S(0), S(1), &stored); }
+static uint8_t seal(void) { return spadeswirl_seal(S(0), S(1), S(2), S(3), S(4), out, out_len); }
+static uint8_t open_record(void) { return spadeswirl_open(S(0), S(1), S(2), out, out_len, &stored); }
+static uint8_t record_check(void) { return spadeswirl_record_check(S(0)); }
 
 static const struct call {
     const char *name;
     int strings;
-    enum shows shows;
+    int shows;
     uint8_t (*make)(void);
 } calls[] = {
     { "aes256_encrypt", 2, BLOCK, aes256_encrypt }, { "aes256_decrypt", 2, BLOCK, aes256_decrypt },
@@ -62,23 +64,25 @@ static const struct call {
     { "gcm_encrypt", 4, OUTPUT, gcm_encrypt }, { "gcm_decrypt", 5, OUTPUT, gcm_decrypt },
     { "wrap", 2, OUTPUT, wrap }, { "unwrap", 2, OUTPUT, unwrap },
     { "table_check", 1, NOTHING, table_check }, { "find", 2, STORED, find },
+    { "seal", 5, OUTPUT, seal }, { "open", 3, OUTPUT | STORED, open_record },
+    { "record_check", 1, NOTHING, record_check },
 };
 
 static void answer(const char *name, const struct call *call, char **words)
 {
     for (int i = 0; i < call->strings; i++)
         take(words[i], i);
-    out_len = call->shows == OUTPUT ? strtoul(words[call->strings], NULL, 10) : 0;
+    out_len = call->shows & OUTPUT ? strtoul(words[call->strings], NULL, 10) : 0;
     stored = 0xa5a5a5a5a5a5a5a5;
     out = malloc(out_len ? out_len : 1);
     memset(out, 0xa5, out_len);
     uint8_t number = call->make();
     printf("%s %u", name, number);
-    if (call->shows == OUTPUT)
+    if (call->shows & OUTPUT)
         show(out, out_len);
-    else if (call->shows == BLOCK)
+    if (call->shows & BLOCK)
         show(strings[1], lengths[1]);
-    else if (call->shows == STORED)
+    if (call->shows & STORED)
         printf(" %016llx", (unsigned long long)stored);
     putchar('\n');
     free(out);
@@ -103,7 +107,7 @@ int main(void)
         for (size_t i = 0; i < sizeof calls / sizeof calls[0]; i++)
             if (count > 1 && strcmp(words[1], calls[i].name) == 0)
                 call = &calls[i];
-        if (!call || count != 2 + call->strings + (call->shows == OUTPUT)) {
+        if (!call || count != 2 + call->strings + (call->shows & OUTPUT ? 1 : 0)) {
             fprintf(stderr, "not a call: %s\n", words[0]);
             return 2;
         }

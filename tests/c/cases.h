@@ -28,8 +28,7 @@ static inline int report(void)
 
 static inline int digit(char c)
 {
-    const char *digits = "0123456789abcdef", *at = c ? strchr(digits, c) : NULL;
-    return at ? (int)(at - digits) : -1;
+    return c >= '0' && c <= '9' ? c - '0' : c >= 'a' && c <= 'f' ? c - 'a' + 10 : -1;
 }
 
 /* The bytes of a word in hex, "-" for none: their count, or -1 for a word that is no hex or too long. */

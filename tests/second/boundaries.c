@@ -3,6 +3,7 @@
  * modes and both ways; every single-bit change of a tag, and many of ciphertexts, IVs and associated data; wrong
  * lengths of every string; outputs of exact, longer and shorter room. Inputs come from a seed, which is printed.
  */
+#include "calls.h"
 #include "ciphers.h"
 
 static const size_t texts[] = { 0, 1, 15, 16, 17, 31, 32, 33, 47, 48, 49, 63, 64, 65, 4096, 65519, 65520, 65521, 65522,
@@ -10,34 +11,9 @@ static const size_t texts[] = { 0, 1, 15, 16, 17, 31, 32, 33, 47, 48, 49, 63, 64
     1048576, 1048577 };
 static const size_t datas[] = { 0, 1, 2, 13, 14, 15, 16, 17, 29, 30, 31, 32, 33, 4095, 4096, 4151, 4152, 4153 };
 
-#define COUNT(a) (sizeof(a) / sizeof((a)[0]))
-
-static unsigned long long state;
-static unsigned long number;
-
-/* xorshift64: any stream of bytes serves. */
-static unsigned char byte(void)
-{
-    state ^= state << 13;
-    state ^= state >> 7;
-    state ^= state << 17;
-    return (unsigned char)(state >> 32);
-}
-
-static struct bytes some(size_t n)
-{
-    struct bytes b = { malloc(n + 1), n };
-    for (size_t i = 0; i < n; i++)
-        b.at[i] = byte();
-    return b;
-}
-
 static void call(const char *name, const struct bytes *w, int count, size_t room)
 {
-    printf("%s.%lu %s", name, ++number, name);
-    for (int i = 0; i < count; i++)
-        put_hex(w[i].at, w[i].len);
-    printf(" %zu\n", room);
+    write_call(name, name, w, count, room);
 }
 
 static const char *const encrypts[] = { "gcm_encrypt", "ccm_encrypt" };
@@ -110,9 +86,7 @@ static void wraps(void)
 
 int main(int argc, char **argv)
 {
-    state = argc > 1 ? strtoull(argv[1], NULL, 10) : 1;
-    printf("# seed %llu\n", state);
-    state = state * 2654435769u + 88172645463325252u;
+    start_from(argc > 1 ? argv[1] : "1");
     for (int ccm = 0; ccm < 2; ccm++) {
         for (size_t i = 0; i < COUNT(texts); i++)
             both_ways(ccm, texts[i], i % 2 ? 20 : 0);

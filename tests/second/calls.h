@@ -1,0 +1,53 @@
+/* What the writers of lines share: strings from a seed, and a call written as a line. */
+#ifndef CALLS_H
+#define CALLS_H
+
+#include "lines.h"
+
+#define COUNT(a) (sizeof(a) / sizeof((a)[0]))
+
+/* In place of a room: the call is lent no output. */
+#define NO_OUTPUT ((size_t)-1)
+
+static unsigned long long state;
+static unsigned long lines;
+
+/* The seed stands in the lines. */
+static inline void start_from(const char *seed)
+{
+    state = strtoull(seed, NULL, 10);
+    printf("# seed %llu\n", state);
+    state = state * 2654435769u + 88172645463325252u;
+}
+
+/* xorshift64: any stream of bytes serves. */
+static inline unsigned char byte(void)
+{
+    state ^= state << 13;
+    state ^= state >> 7;
+    state ^= state << 17;
+    return (unsigned char)(state >> 32);
+}
+
+static inline struct bytes some(size_t n)
+{
+    struct bytes b = { malloc(n + 1), n };
+    if (!b.at)
+        fail("no memory", "some");
+    for (size_t i = 0; i < n; i++)
+        b.at[i] = byte();
+    return b;
+}
+
+/* A line's name is what it is about and its place among the lines. */
+static inline void write_call(const char *about, const char *name, const struct bytes *w, int count, size_t room)
+{
+    printf("%s.%lu %s", about, ++lines, name);
+    for (int i = 0; i < count; i++)
+        put_hex(w[i].at, w[i].len);
+    if (room != NO_OUTPUT)
+        printf(" %zu", room);
+    putchar('\n');
+}
+
+#endif
