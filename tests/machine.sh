@@ -21,10 +21,12 @@ install_package() {
 command -v rt >/dev/null 2>&1 || { echo "rt, the Rattle kit's command, is not on the PATH"; exit 1; }
 kit=$(dirname "$(dirname "$(rt doc)")")
 
+# The second program is built for this machine, whichever it is.
+need gcc gcc || exit 1
+[ -e /usr/include/stdio.h ] || install_package libc6-dev || exit 1
+
 case $(uname -m) in
 x86_64)
-    need gcc gcc || exit 1
-    [ -e /usr/include/stdio.h ] || install_package libc6-dev || exit 1
     cc="gcc -static" run=
     ;;
 aarch64)

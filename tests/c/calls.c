@@ -15,12 +15,15 @@ static uint8_t *strings[STRINGS], *out;
 static size_t lengths[STRINGS], out_len;
 static uint64_t stored;
 
-/* The strings of a line, each in memory of its own size, so that a checker of memory sees a read past its end. */
+/*
+ * The strings of a line, each in memory of its own size, so that a checker of memory sees a read past its end. An empty
+ * one is a null pointer, and so is an output with no room.
+ */
 static void take(char *word, int i)
 {
     size_t room = strlen(word) / 2;
-    strings[i] = malloc(room ? room : 1);
-    long n = strings[i] ? unhex(word, strings[i], room) : -1;
+    strings[i] = room ? malloc(room) : NULL;
+    long n = strings[i] || !room ? unhex(word, strings[i], room) : -1;
     if (n < 0) {
         fprintf(stderr, "no hex: %.40s\n", word);
         exit(2);
@@ -74,8 +77,9 @@ static void answer(const char *name, const struct call *call, char **words)
         take(words[i], i);
     out_len = call->shows & OUTPUT ? strtoul(words[call->strings], NULL, 10) : 0;
     stored = 0xa5a5a5a5a5a5a5a5;
-    out = malloc(out_len ? out_len : 1);
-    memset(out, 0xa5, out_len);
+    out = out_len ? malloc(out_len) : NULL;
+    for (size_t i = 0; i < out_len; i++)
+        out[i] = 0xa5;
     uint8_t number = call->make();
     printf("%s %u", name, number);
     if (call->shows & OUTPUT)

@@ -21,7 +21,7 @@ static void lengths(unsigned mode)
     static const size_t datas[] = { 0, 1, 15, 16, 17, 4095, 4096, 4097 }, names[] = { 0, 1, 31, 33, 34, 255, 256, 65536 };
     for (int k = 0; k < 4; k++)
         for (size_t i = 0; i < COUNT(texts); i++)
-            for (size_t j = 0; j < COUNT(datas); j += 1 + (i != 7 && j >= 4))
+            for (size_t j = 0; j < COUNT(datas); j++)
                 both_ways(&rows[4 * (mode - 1) + k], texts[i], datas[j]);
     for (size_t i = 0; i < COUNT(longer); i++)
         both_ways(&rows[4 * (mode - 1) + (i + 2) % 4], longer[i], i % 2 ? 20 : 0);
@@ -116,6 +116,21 @@ static void open_refused(unsigned mode)
     opens("wide", keys, wide, datas[1], PLAIN_MAX + 1);
     opens("wide", keys, wide, datas[0], 16);
     opens("wide", keys, changed(wide, HEADER, 128), datas[0], PLAIN_MAX + 1);
+}
+
+/* Empty strings and junk in every argument. */
+static void junk(void)
+{
+    struct bytes tables[] = { keys, broken_table(), nothing, cut(keys, 7), some(80) };
+    struct bytes strings[] = { nothing, some(1), some(12), some(23), some(24), some(100), some(4097) };
+    for (size_t t = 0; t < COUNT(tables); t++)
+        for (size_t i = 0; i < COUNT(strings); i++)
+            for (size_t j = 0; j < COUNT(strings); j++) {
+                opens("junk", tables[t], strings[i], strings[j], 9 * (j % 2));
+                seals("junk", tables[t], strings[i], strings[j], strings[i], strings[j], 9 * (j % 2));
+            }
+    for (size_t i = 0; i < COUNT(strings); i++)
+        checks("junk", strings[i]);
 }
 
 /* Which row answers. */
@@ -213,6 +228,7 @@ int main(int argc, char **argv)
         another(mode);
     }
     tables();
+    junk();
     mixed();
     return 0;
 }
