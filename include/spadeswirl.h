@@ -20,6 +20,7 @@
  *    7  the row's use is another
  *    8  a wrapped key is not 40 bytes
  *    9  the tag, or the start value of a wrapped key, is wrong
+ *   10  the IV session is spent
  *
  * The lowest number that applies is given. After any number but 0 nothing
  * that was lent has changed. After 0 the bytes of an output past the result
@@ -185,6 +186,30 @@ uint8_t spadeswirl_list_step(const uint8_t *list, size_t list_len,
  */
 uint8_t spadeswirl_label_check(const uint8_t *label, size_t label_len,
                                uint64_t *count);
+
+/*
+ * An IV session (SP 800-38D's fixed and invocation fields), which the caller
+ * holds: the prefix, the next number, and whether it is spent, which is any
+ * byte but 0. One session's IVs all differ; a saved copy of a session, or two
+ * of one prefix, would issue an IV twice.
+ */
+struct spadeswirl_session {
+    uint8_t prefix[4];
+    uint64_t next;
+    uint8_t spent;
+};
+
+/* Starts a session: the prefix big-endian in its four bytes. Always 0. */
+uint8_t spadeswirl_session_start(struct spadeswirl_session *s,
+                                 uint32_t prefix, uint64_t start);
+
+/*
+ * Fills the first 12 bytes of iv with the prefix, then the next number, and
+ * advances the session. After the IV of 2^64 - 1 it is spent. Numbers: 0; 5
+ * where iv has fewer than 12 bytes; 10 where the session is spent.
+ */
+uint8_t spadeswirl_session_issue(struct spadeswirl_session *s,
+                                 uint8_t *iv, size_t iv_len);
 
 #ifdef __cplusplus
 }

@@ -50,4 +50,15 @@ static inline void write_call(const char *about, const char *name, const struct 
     putchar('\n');
 }
 
+/* A call with one string and then numbers. */
+static inline void write_numbered(const char *about, const char *name, struct bytes w, const unsigned long long *numbers,
+                                  int count)
+{
+    printf("%s.%lu %s", about, ++lines, name);
+    put_hex(w.at, w.len);
+    for (int i = 0; i < count; i++)
+        printf(" %llu", numbers[i]);
+    putchar('\n');
+}
+
 #endif

@@ -5,7 +5,7 @@
 #ifndef RECORDS_H
 #define RECORDS_H
 
-#include <stdint.h>
+#include "bytes.h"
 #include "ciphers.h"
 #include "keytable.h"
 
@@ -14,36 +14,6 @@
 #define HEADER 24
 #define IV 12
 #define TAG 16
-
-static inline uint64_t get(const unsigned char *at, int count)
-{
-    uint64_t value = 0;
-    for (int i = 0; i < count; i++)
-        value = value << 8 | at[i];
-    return value;
-}
-
-static inline void put(unsigned char *at, int count, uint64_t value)
-{
-    while (count > 0)
-        at[--count] = (unsigned char)value, value >>= 8;
-}
-
-static inline struct bytes room_for(uint64_t len)
-{
-    struct bytes b = { malloc(len + 1), len };
-    if (!b.at)
-        fail("no memory", "room_for");
-    return b;
-}
-
-static inline struct bytes joined(struct bytes a, struct bytes b)
-{
-    struct bytes both = room_for(a.len + b.len);
-    memcpy(both.at, a.at, a.len);
-    memcpy(both.at + a.len, b.at, b.len);
-    return both;
-}
 
 /* A record's front, the 24 + k bytes before its IV: header and name. */
 static inline struct bytes front_of(unsigned mode, struct bytes name, uint64_t n)

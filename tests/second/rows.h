@@ -13,8 +13,6 @@ struct row {
     unsigned use;
 };
 
-static const struct bytes nothing = { (unsigned char *)"", 0 };
-
 /* Rows of either mode with names of four sizes, then a key-encrypting key's; and their table. */
 static const size_t sizes[] = { 1, 5, 31, 32 };
 static struct row rows[9];
@@ -75,21 +73,6 @@ static inline void checks(const char *about, struct bytes record)
 static inline struct bytes record_by(const struct row *r, struct bytes aad, size_t n)
 {
     return record_of(r->use == 1, r->key, front_of(r->use, r->name, n), some(IV), aad, some(n));
-}
-
-/* A copy with some bits of one byte changed. */
-static inline struct bytes changed(struct bytes b, size_t at, unsigned by)
-{
-    struct bytes c = joined(b, nothing);
-    c.at[at] ^= (unsigned char)by;
-    return c;
-}
-
-/* The first so many bytes. */
-static inline struct bytes cut(struct bytes b, size_t len)
-{
-    b.len = len;
-    return b;
 }
 
 #endif
