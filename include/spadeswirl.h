@@ -11,10 +11,12 @@
  *    0  done
  *    1  the key table breaks its layout, or has more than 64 rows
  *    2  the length of a lent key, IV, tag or block is wrong, a name is empty, or
- *       a record, a list or a label breaks its layout
- *    3  a record's mode is neither 1 nor 2
+ *       a record, a page, a list or a label breaks its layout
+ *    3  a record's mode is neither 1 nor 2, or a page has a field, KEK type or
+ *       format that is not permitted
  *    4  a maximum is passed: associated data over 4,152 bytes (4,096 for a
- *       record), text over 1,048,576, a name over 32, or a label over 4,096
+ *       record), text over 1,048,576, a name over 32, or a
+ *       page or label over 4,096
  *    5  the output is shorter than the result
  *    6  no row of that name
  *    7  the row's use is another
@@ -139,6 +141,51 @@ uint8_t spadeswirl_seal(const uint8_t *table, size_t table_len,
                         uint8_t *out, size_t out_len);
 
 /*
+ * An IV session: a prefix of four bytes, the next number, and whether the last
+ * IV has been given; any value of spent but 0 says so. The caller holds it, and
+ * a call advances it there, exactly when it answers 0.
+ *
+ * The IVs of one session all differ. A saved copy of a session that is used
+ * again, or two sessions of one prefix under one key, is outside what is
+ * promised: there an IV may come twice.
+ */
+struct spadeswirl_session {
+    uint8_t prefix[4];
+    uint64_t next;
+    uint8_t spent;
+};
+
+/*
+ * Starts a session: the prefix is written big-endian into the four bytes, and
+ * the first IV is that prefix, then start in eight bytes. Always 0; what the
+ * session held before does not matter.
+ */
+uint8_t spadeswirl_session_start(struct spadeswirl_session *session,
+                                 uint32_t prefix, uint64_t start);
+
+/*
+ * Writes the next IV over the first 12 bytes of the output. Numbers: 0; 5 for
+ * an output under 12 bytes; 10. The IV of 2^64 - 1 is given; the calls after
+ * it give 10.
+ */
+uint8_t spadeswirl_session_issue(struct spadeswirl_session *session,
+                                 uint8_t *out, size_t out_len);
+
+/*
+ * Sealing with the next IV of a session, which is written nowhere but in the
+ * record: what spadeswirl_seal does with that IV, and the session advances
+ * exactly when the answer is 0, so that no IV is used twice by mistake.
+ * Numbers: 0; 1; 2 for an empty name; 4, 5, 6, 7 as for spadeswirl_seal; 10.
+ * After any but 0 neither the output nor the session has changed.
+ */
+uint8_t spadeswirl_seal_next(struct spadeswirl_session *session,
+                             const uint8_t *table, size_t table_len,
+                             const uint8_t *name, size_t name_len,
+                             const uint8_t *aad, size_t aad_len,
+                             const uint8_t *plain, size_t plain_len,
+                             uint8_t *out, size_t out_len);
+
+/*
  * Opening is by the row of the record's whole name. It fills the first *n
  * bytes of the output and stores n, so that no caller has to believe the
  * header; no byte is written before the tag is found right. Numbers: 0; 1; 2
@@ -188,28 +235,29 @@ uint8_t spadeswirl_label_check(const uint8_t *label, size_t label_len,
                                uint64_t *count);
 
 /*
- * An IV session (SP 800-38D's fixed and invocation fields), which the caller
- * holds: the prefix, the next number, and whether it is spent, which is any
- * byte but 0. One session's IVs all differ; a saved copy of a session, or two
- * of one prefix, would issue an IV twice.
+ * A key page (SSC-3, Set Data Encryption), read by itself. Its fields, in
+ * order: scope, lock, CEEM, RDMC, SDK, CKOD, CKORP, CKORL, encryption mode,
+ * decryption mode, algorithm index (1 CCM, 2 GCM), key format, KEY LENGTH, and
+ * the number of its descriptors that are not reserved. Numbers: 0 with the
+ * fields stored; 2 where its bytes break the layout, the KEY part of a known
+ * format too; 3 for a field, a KEK type or a format that is not permitted; 4
+ * for a page over 4,096 bytes, or a reference or identifier over 32.
  */
-struct spadeswirl_session {
-    uint8_t prefix[4];
-    uint64_t next;
-    uint8_t spent;
-};
-
-/* Starts a session: the prefix big-endian in its four bytes. Always 0. */
-uint8_t spadeswirl_session_start(struct spadeswirl_session *s,
-                                 uint32_t prefix, uint64_t start);
+uint8_t spadeswirl_page_read(const uint8_t *page, size_t page_len,
+                             uint64_t fields[14]);
 
 /*
- * Fills the first 12 bytes of iv with the prefix, then the next number, and
- * advances the session. After the IV of 2^64 - 1 it is spent. Numbers: 0; 5
- * where iv has fewer than 12 bytes; 10 where the session is spent.
+ * Loads the key of a page: its own (format 00h), that of the row of a
+ * reference (01h), whose use is the algorithm index, or a wrapped key (04h),
+ * by the row of the identifier, whose use is 3. Fills the first 32 bytes of
+ * the output and stores the fields. Numbers: 0; 1, for every format; 2, 3 and
+ * 4 as above; 5 below 32 bytes; 6; 7; 8 where the wrapped key is not 40 bytes;
+ * 9. After any but 0 neither the output nor the fields have changed.
  */
-uint8_t spadeswirl_session_issue(struct spadeswirl_session *s,
-                                 uint8_t *iv, size_t iv_len);
+uint8_t spadeswirl_page_load(const uint8_t *table, size_t table_len,
+                             const uint8_t *page, size_t page_len,
+                             uint8_t *out, size_t out_len,
+                             uint64_t fields[14]);
 
 #ifdef __cplusplus
 }

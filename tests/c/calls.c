@@ -76,6 +76,8 @@ static uint8_t record_check(void) { return spadeswirl_record_check(S(0)); }
 static uint8_t list_check(void) { return spadeswirl_list_check(S(0), FLAG(0), FLAG(1), stored); }
 static uint8_t list_step(void) { return spadeswirl_list_step(S(0), FLAG(0), FLAG(1), numbers[2], stored); }
 static uint8_t label_check(void) { return spadeswirl_label_check(S(0), stored); }
+static uint8_t page_read(void) { return spadeswirl_page_read(S(0), stored); }
+static uint8_t page_load(void) { return spadeswirl_page_load(S(0), S(1), out, out_len, stored); }
 static uint8_t session_start(void) { return spadeswirl_session_start(&session, (uint32_t)numbers[0], numbers[1]); }
 static uint8_t session_issue(void) { return spadeswirl_session_issue(&session, out, out_len); }
 
@@ -95,6 +97,7 @@ static const struct call {
     { "record_check", 1, 0, NOTHING, 0, record_check },
     { "list_check", 1, 2, NOTHING, 1, list_check }, { "list_step", 1, 3, NOTHING, 2, list_step },
     { "label_check", 1, 0, NOTHING, 1, label_check },
+    { "page_read", 1, 0, NOTHING, 14, page_read }, { "page_load", 2, 0, OUTPUT, 14, page_load },
     { "session_start", 0, 2, SESSION, 0, session_start }, { "session_issue", 0, 3, OUTPUT | SESSION, 0, session_issue },
 };
 

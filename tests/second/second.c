@@ -6,6 +6,7 @@
  * rooms with commas between: the start is answered as NAME.start, then each issue by a line.
  */
 #include "lists.h"
+#include "pages.h"
 #include "records.h"
 #include "sessions.h"
 
@@ -13,7 +14,7 @@
 
 /* The most numbers that a call is given, and that one stores. */
 #define NUMBERS 4
-#define STORED 14
+#define STORED PAGE_FIELDS
 
 static struct bytes lent(size_t room)
 {
@@ -101,13 +102,15 @@ static int made(int call, struct bytes *w, const unsigned long long *n, struct b
     case 13: return list_check(w[0], n[0] != 0, n[1] != 0, stored);
     case 14: return list_step(w[0], n[0] != 0, n[1] != 0, n[2], stored);
     case 15: return label_check(w[0], stored);
-    case 16: return session_start(session, n[0], n[1]);
-    case 17: return session_issue(session, out);
+    case 16: return page_read(w[0], stored);
+    case 17: return page_load(w, out, stored);
+    case 18: return session_start(session, n[0], n[1]);
+    case 19: return session_issue(session, out);
     }
     return -1;
 }
 
-#define ISSUES 17
+#define ISSUES 19
 
 /*
  * How many byte strings and numbers a call takes, what its answer shows, the output lent (o), the block (b), the session
@@ -123,8 +126,8 @@ static const struct {
     { "ccm_decrypt", 5, 0, "o", 0 }, { "gcm_encrypt", 4, 0, "o", 0 }, { "gcm_decrypt", 5, 0, "o", 0 },
     { "wrap", 2, 0, "o", 0 }, { "unwrap", 2, 0, "o", 0 }, { "table_check", 1, 0, "", 0 }, { "find", 2, 0, "", 1 },
     { "seal", 5, 0, "o", 0 }, { "open", 3, 0, "o", 1 }, { "record_check", 1, 0, "", 0 }, { "list_check", 1, 2, "", 1 },
-    { "list_step", 1, 3, "", 2 }, { "label_check", 1, 0, "", 1 }, { "session_start", 0, 2, "i", 0 },
-    { "session_issue", 0, 3, "oi", 0 },
+    { "list_step", 1, 3, "", 2 }, { "label_check", 1, 0, "", 1 }, { "page_read", 1, 0, "", PAGE_FIELDS },
+    { "page_load", 2, 0, "o", PAGE_FIELDS }, { "session_start", 0, 2, "i", 0 }, { "session_issue", 0, 3, "oi", 0 },
 };
 
 static int shown(int call, char what)

@@ -1,16 +1,12 @@
--- A table filled in a loop, and what the right tables have for a byte.
+-- What the right tables have for a byte.
 -- Assumes nothing.
-use mathlib.Core.Path.{_≡_, sym, ap, _∙_}
-use mathlib.Core.List.{List, [], _∷_, _++_}
+use mathlib.Core.Path.{_≡_, ap, _∙_}
+use mathlib.Core.List.{List, [], _∷_}
 use Prim.Native.Nat.{ℕ, _+_, _-_, _%_, _<_}
 use native.Mathlib.Nat.{zero-add}
-use native.Mathlib.Numerals.{add-one}
-use native.Mathlib.Omega.{arith}
-use lib.ListN.{length, getD, set, take}
-use lib.Seq.{take-suc-set, take-all}
-use Rattle.octets.specs.Values.{values}
+use lib.ListN.{getD}
 use Rattle.octets.specs.Bytes.{Bytes}
-use Rattle.octets.proofs.Values.{getD-values, values-more}
+use Rattle.octets.proofs.Values.{getD-values}
 use Rattle.octets.proofs.Bytes.{bytes-nil, bytes-cons}
 use Rattle.aes_field.specs.Field.{sbox}
 use Rattle.aes_field.proofs.Linear.{times-byte}
@@ -19,22 +15,6 @@ use Rattle.aes_fast.specs.ByTables.{Tables, columnFrom, entryAt}
 use Rattle.aes_fast.specs.Right.{wordFrom, spread, added, roundTable, Right}
 use Rattle.aes_fast.specs.Right.Inside.{roundTables-is, right-is}
 use Rattle.aes_fast.proofs.Columns.{columnFrom-wordFrom}
-
--- ---- a list that holds f below place i
-
-module _ (f : ℕ → ℕ) (l : List ℕ) (i : ℕ) where
-  pub values-turn : (v : ℕ) → i < length l → take i l ≡ values f 0 i → v ≡ f i → take (i + 1) (set l i v) ≡ values f 0 (i + 1)
-  values-turn v h p e =
-      ap (λ (k : ℕ). take k (set l i v)) (add-one i)
-      ∙ take-suc-set l i v h
-      ∙ ap (λ (s : List ℕ). s ++ v ∷ []) p
-      ∙ ap (λ (x : ℕ). values f 0 i ++ x ∷ []) (e ∙ ap f (sym (zero-add i)))
-      ∙ sym (values-more f 0 i)
-
-  pub values-end : length l ≡ i → take i l ≡ values f 0 i → l ≡ values f 0 i
-  values-end e p = sym (take-all i l (omega arith)) ∙ p
-
--- ---- entries
 
 spread-bytes : {a : ℕ} → a < 256 → Bytes (spread a)
 spread-bytes h = bytes-cons (times-byte 2 h) (bytes-cons h (bytes-cons h (bytes-cons (times-byte 3 h) bytes-nil)))

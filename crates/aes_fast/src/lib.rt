@@ -1,34 +1,33 @@
-// AES-256 by tables of words that a caller makes once for a record and lends down, one block or two at a time.
+// AES-256 by constant tables of words that a caller lends down, one block or two at a time.
 mod places;
 mod rounds;
-mod tables;
+mod row_0;
+mod row_1;
+mod row_2;
+mod row_3;
 mod words;
 
 use aes::state::load;
 use aes::state::store;
-use aes_field::sbox_table;
 use places::place_rounds;
 use rounds::add_round_key;
 use rounds::all_rounds_two;
 use rounds::last_round;
-use tables::round_table;
+use row_0::ROW_0;
+use row_1::ROW_1;
+use row_2::ROW_2;
+use row_3::ROW_3;
 ghost use mathlib.Core.Path.{_≡_};
 ghost use mathlib.Core.List.{[]};
 ghost use lib.ListN.{getD};
 ghost use Rattle.aes_fast.specs.Right.{roundTables};
 ghost use Rattle.aes_fast.specs.Laws.{Ciphered, CipheredTwo};
 
-// The four tables, for a caller to keep: 4,096 bytes.
+// The four tables, 4,096 bytes: for a byte in each row, what it adds to a mixed column.
 pub fn round_tables() -> [[u32; 256]; 4]
     ensures { λ r. ⌜ r ≡ roundTables ⌝ }
 {
-    let s = sbox_table();
-    [
-        round_table(&s, 0),
-        round_table(&s, 1),
-        round_table(&s, 2),
-        round_table(&s, 3),
-    ]
+    [ROW_0, ROW_1, ROW_2, ROW_3]
 }
 
 pub fn encrypt(t: &[[u32; 256]; 4], ks: &[[[u8; 4]; 4]; 15], block: [u8; 16]) -> [u8; 16]

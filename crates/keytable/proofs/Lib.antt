@@ -2,3 +2,4 @@ pub mod Accepted
 pub mod Lookup
 pub mod Calls
 pub mod Laws
+pub mod RowFound

@@ -9,7 +9,7 @@ use borrow.Author.Tests.{eq-eqb, le-ltb}
 use lib.ListN.{length, take}
 use lib.Seq.{take-at}
 use Rattle.octets.specs.Lent.{over}
-use Rattle.octets.proofs.Lent.{over-fits, one-answer}
+use Rattle.octets.proofs.Lent.{over-injective, over-fits, one-answer}
 use Rattle.aes.specs.KeyExpansion.{schedule}
 use Rattle.keywrap.specs.Wrap.{wrapped, startRight, keyOf}
 use Rattle.keywrap.specs.Calls.{unwrapAnswer}
@@ -33,10 +33,6 @@ wrapped-bytes kek key hk h = bytes-joined (wrapSteps-good kek hk 24 (begin-good 
 
 -- ---- over lent bytes of the right lengths
 
-over-injective : (k k′ out : List ℕ) → length k ≡ 32 → length k′ ≡ 32 → 32 ≤ length out → over k out ≡ over k′ out → k ≡ k′
-over-injective k k′ out s s′ room e =
-    sym (take-at k _ 32 s) ∙ ap (take 32) (sym (over-fits k out (omega arith)) ∙ e ∙ over-fits k′ out (omega arith)) ∙ take-at k′ _ 32 s′
-
 module _ (kek w out : List ℕ) (size : length kek ≡ 32) (long : length w ≡ 40) (room : 32 ≤ length out) where
   answers-key : startRight kek w ≡ true → unwrapAnswer kek w out ≡ (0, over (keyOf kek w) out)
   answers-key = unwrap-key kek w out (ap not (eq-eqb _ 32 size)) (le-ltb _ 32 room) (ap not (eq-eqb _ 40 long))
@@ -52,7 +48,7 @@ unwraps-exactly kek w out k size hk long hw room = (to, from)
     by : (t : Bool) → startRight kek w ≡ t → UnwrapsTo kek w out k → WrapsTo kek k w
     by true start h =
         let written = ap (λ a. a .1) (sym (answers-key kek w out size long room start) ∙ h .answers) in
-        let found : keyOf kek w ≡ k = over-injective _ k out (keyOf-size kek hk w long hw) (h .size) room written in
+        let found : keyOf kek w ≡ k = over-injective _ k out (keyOf-size kek hk w long hw ∙ sym (h .size)) (omega (arith, h .size, room)) written in
         rw found at (key-wraps kek hk w long hw start)
     by false wrong h =
         let nine : _≡_ {A = ℕ} 9 0 = ap (λ a. a .0) (sym (answers-nine kek w out size long room wrong) ∙ h .answers) in

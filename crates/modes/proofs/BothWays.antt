@@ -12,7 +12,7 @@ use lib.Seq.{take-at, drop-at}
 use Rattle.octets.specs.Same.{same}
 use Rattle.octets.specs.Lent.{over}
 use Rattle.octets.proofs.Same.{same-equal, same-refl}
-use Rattle.octets.proofs.Lent.{over-fits, one-answer}
+use Rattle.octets.proofs.Lent.{over-injective, one-answer}
 use Rattle.modes.specs.Mode.{Mode, sealed}
 use Rattle.modes.specs.Calls.{decryptAnswer}
 use Rattle.modes.specs.Laws.{InRange, DecryptsTo, DecryptsExactly, OnePlaintext, ElseNine, SealedLength, Lawful}
@@ -44,12 +44,6 @@ append-apart a b c d size e = (
     fronts : length a ≡ length c
     fronts = omega (arith, length-append a b, length-append c d, ap length e)
 
-over-same : (s t d : List ℕ) → length s ≡ length t → length t ≤ length d → over s d ≡ over t d → s ≡ t
-over-same s t d size fits e =
-    sym (take-at s (drop (length s) d) (length t) size)
-    ∙ ap (take (length t)) (sym (over-fits s d (omega arith)) ∙ e ∙ over-fits t d fits)
-    ∙ take-at t (drop (length t) d) (length t) refl
-
 zero-not-nine : {A : Type 0} {x y : A} → _≡_ {A = ℕ × A} (9, x) (0, y) → ⊥
 zero-not-nine {A} e = let z : _≡_ {A = ℕ} 9 0 = ap (λ (u : ℕ × A). u .0) e in omega arith
 
@@ -80,7 +74,7 @@ module _ (m : Mode) (fit : Fitting m) where
         go : (r : Bool) → m .authentic key iv (a ++ b) c t ≡ r → sealed m key iv (a ++ b) p ≡ c ++ t
         go true e =
             ap (sealed m key iv (a ++ b))
-            (sym (over-same (m .plaintext key iv c) p out (plaintext-length ∙ sym (d .size)) (omega (arith, d .size, inside .room))
+            (sym (over-injective (m .plaintext key iv c) p out (plaintext-length ∙ sym (d .size)) (omega (arith, d .size, inside .room))
             (ap (λ (u : ℕ × List ℕ). u .1) (one-answer (answers-zero e) (d .answers)))))
             ∙ seals-back e
         go false e = absurd (zero-not-nine (one-answer (answers-nine e) (d .answers)))

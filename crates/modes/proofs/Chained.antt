@@ -10,10 +10,6 @@ use Rattle.octets.specs.Xor.{xors}
 use Rattle.octets.specs.Running.{absorb}
 use Rattle.octets.proofs.Running.{absorb-append, absorb-blocks, absorb-nil}
 
--- what is left from place `at`, as it is lent
-pub rest-all : (s : List ℕ) (at : ℕ) → take (length s - at) (drop at s) ≡ drop at s
-rest-all s at = take-all (length s - at) (drop at s) (omega (arith, length-drop at s))
-
 module _ (f : List ℕ → List ℕ) where
   -- the block at place `at`, of what is left from there
   pub absorb-block-turn : (y s : List ℕ) (at : ℕ) → length y ≡ 16 → at + 16 ≤ length s

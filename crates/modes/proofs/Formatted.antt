@@ -27,7 +27,7 @@ use Rattle.modes.specs.Ccm.{flags, firstBlock, dataBlocks, mac, front, f
 use Rattle.modes.specs.Calls.{textMax}
 use Rattle.modes.proofs.Limits.{counterFits-three, counterAnswer-fits}
 use Rattle.modes.proofs.Stream.{length-ctr, ctr-ctr}
-use Rattle.modes.proofs.Sealed.{over-then}
+use Rattle.octets.proofs.Lent.{over-then}
 
 -- ---- the first block and the counter blocks' front
 

@@ -4,7 +4,6 @@ pub mod Stream
 pub mod Chained
 pub mod Formatted
 pub mod Opened
-pub mod Sealed
 pub mod Numbers
 pub mod BothWays
 pub mod CcmLaws

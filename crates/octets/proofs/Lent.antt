@@ -1,17 +1,18 @@
--- A string written over the front of another, and the answer of a call that is refused.
+-- A string written over the front of another, and what the answer of a call tells.
 -- Assumes nothing.
-use mathlib.Core.Path.{_≡_, sym, ap, _∙_}
-use mathlib.Core.Bool.{false}
-use mathlib.Core.List.{List, [], _∷_, _++_, append-nil}
-use Prim.Native.Nat.{ℕ, suc, _+_, _≤_, _<_, min}
+use mathlib.Core.Path.{_≡_, refl, sym, ap, ap₂, _∙_}
+use mathlib.Core.Bool.{Bool, true, false, not, _&&_}
+use mathlib.Core.List.{List, [], _∷_, _++_, append-assoc, append-nil}
+use Prim.Native.Nat.{ℕ, zero, suc, _+_, _-_, _≤_, _<_, min}
 use native.Mathlib.Nat.{zero-min, min-zero, suc-min-suc}
 use native.Mathlib.Numerals.{add-one}
 use native.Mathlib.Omega.{arith}
 use lib.Dec.{eqb}
 use lib.ListN.{length, getD, set, take, drop, replicate, length-replicate, length-append, length-take, length-drop, drop-of-length-le}
-use lib.Seq.{take-all, take-nil, take-suc, drop-cons, set-at, append-snoc, length-take-le}
-use borrow.Author.Tests.{eqb-true, eq-eqb, not-false}
-use Rattle.octets.specs.Lent.{isNot, over, answer}
+use lib.Seq.{take-all, take-nil, take-suc, drop-cons, set-at, append-snoc, length-take-le, take-at, drop-at, drop-drop}
+use borrow.Author.Tests.{eqb-true, eqb-false, eq-eqb, not-true, not-false}
+use Rattle.octets.specs.Lent.{when, isNot, lowest, over, answer}
+use Rattle.octets.proofs.Tests.{and-left, and-right, rest-all}
 
 -- ---- lengths
 
@@ -62,3 +63,80 @@ answer-refused n result before e = rw e
 -- a statement that is an equation has one answer
 pub one-answer : {A : Type 0} {x a b : A} → x ≡ a → x ≡ b → a ≡ b
 one-answer p q = sym p ∙ q
+
+-- ---- where 0 is given, no test of the list applies
+
+abbrev pub testAt : List (ℕ × Bool) → ℕ → Bool
+testAt [] i = false
+testAt (n ∷ ns) zero = n .1
+testAt (n ∷ ns) (suc i) = testAt ns i
+
+-- no number of the list is 0
+abbrev pub numbered : List (ℕ × Bool) → Bool
+numbered [] = true
+numbered (n ∷ ns) = not (eqb (n .0) 0) && numbered ns
+
+pub none-applies : (ns : List (ℕ × Bool)) (i : ℕ) → numbered ns ≡ true → lowest ns ≡ 0 → testAt ns i ≡ false
+none-applies [] i h e = refl
+none-applies (n ∷ ns) i h e =
+    go (n .1) refl e i (λ (j : ℕ) (q : lowest ns ≡ 0). none-applies ns j (and-right (not (eqb (n .0) 0)) (numbered ns) h) q)
+  where
+    go : (t : Bool) → n .1 ≡ t → when t (n .0) (lowest ns) ≡ 0 → (i : ℕ) → ((j : ℕ) → lowest ns ≡ 0 → testAt ns j ≡ false) → testAt (n ∷ ns) i ≡ false
+    go true p q i ih = absurd (eqb-false (n .0) 0 (not-true _ (and-left (not (eqb (n .0) 0)) (numbered ns) h)) q)
+    go false p q zero ih = p
+    go false p q (suc i) ih = ih i q
+
+-- ---- the answer 0, and what it tells
+
+pub answer-done : (n : ℕ) (result before : List ℕ) → n ≡ 0 → answer n result before ≡ (0, over result before)
+answer-done n result before e = rw e
+
+pub answer-zero : (n : ℕ) (result before after : List ℕ) → answer n result before ≡ (0, after) → (n ≡ 0) × (over result before ≡ after)
+answer-zero n result before after e = (number, state)
+  where
+    number : n ≡ 0
+    number = ap (λ (x : ℕ × List ℕ). x .0) e
+
+    state : over result before ≡ after
+    state = ap (λ (x : ℕ × List ℕ). x .1) (sym (answer-done n result before number) ∙ e)
+
+-- ---- a result that fits, over the front of an output
+
+module _ (s d : List ℕ) (n : ℕ) (size : length s ≡ n) (fits : n ≤ length d) where
+  pub take-over : take n (over s d) ≡ s
+  take-over = ap (take n) (over-fits s d (omega arith)) ∙ take-at s (drop (length s) d) n size
+
+  pub drop-over : drop n (over s d) ≡ drop n d
+  drop-over = ap (drop n) (over-fits s d (omega arith)) ∙ drop-at s (drop (length s) d) n size ∙ ap (λ (k : ℕ). drop k d) size
+
+pub over-injective : (s t d : List ℕ) → length s ≡ length t → length t ≤ length d → over s d ≡ over t d → s ≡ t
+over-injective s t d size fits e = sym (take-over s d (length t) size fits) ∙ ap (take (length t)) e ∙ take-over t d (length t) refl fits
+
+-- ---- a string written over the front of an output, and another after it in the part that is lent from there: the two written as one
+
+-- the front is then the string
+pub over-front : (s d d₁ : List ℕ) (n : ℕ) → length s ≡ n → n ≤ length d → d₁ ≡ over s d → take n d₁ ≡ s
+over-front s d d₁ n size fits first = ap (take n) first ∙ take-over s d n size fits
+
+module _ (s t d d₁ ys : List ℕ) (n : ℕ) (size : length s ≡ n) (fits : n + length t ≤ length d) (first : d₁ ≡ over s d) where
+  whole : d₁ ≡ s ++ drop n d
+  whole = first ∙ over-fits s d (omega arith) ∙ ap (λ (k : ℕ). s ++ drop k d) size
+
+  rest : drop n d₁ ≡ drop n d
+  rest = ap (drop n) whole ∙ drop-at s (drop n d) n size
+
+  pub over-then : ys ≡ over t (take (length d₁ - n) (drop n d₁)) → take n d₁ ++ (ys ++ drop (length d₁ - n) (drop n d₁)) ≡ over (s ++ t) d
+  over-then second =
+      ap₂ (λ (x y : List ℕ). x ++ y) (over-front s d d₁ n size (omega arith) first) (ap₂ (λ (x y : List ℕ). x ++ y) written none ∙ append-nil (t ++ drop (length t) (drop n d)))
+      ∙ ap (λ (l : List ℕ). s ++ (t ++ l)) (drop-drop (length t) n d ∙ ap (λ (k : ℕ). drop k d) both)
+      ∙ sym (append-assoc s t (drop (length (s ++ t)) d))
+      ∙ sym (over-fits (s ++ t) d (omega (arith, length-append s t)))
+    where
+      none : drop (length d₁ - n) (drop n d₁) ≡ []
+      none = drop-of-length-le (drop n d₁) {i = length d₁ - n} (omega (arith, length-drop n d₁))
+
+      written : ys ≡ t ++ drop (length t) (drop n d)
+      written = second ∙ ap (over t) (rest-all d₁ n ∙ rest) ∙ over-fits t (drop n d) (omega (arith, length-drop n d))
+
+      both : n + length t ≡ length (s ++ t)
+      both = omega (arith, length-append s t)

@@ -1,14 +1,14 @@
 -- Tests joined by && and || and along a list: what the outcome says of each; and the length of a part.
 -- Assumes nothing.
-use mathlib.Core.Path.{_≡_, refl, sym, _∙_}
+use mathlib.Core.Path.{_≡_, refl, sym, ap, _∙_}
 use mathlib.Core.Bool.{Bool, true, false, _&&_, _||_, false≢true}
-use mathlib.Core.List.{List, [], _∷_}
-use Prim.Native.Nat.{ℕ, zero, suc, _+_, _≤_, _<_}
+use mathlib.Core.List.{List, [], _∷_, _++_, append-assoc}
+use Prim.Native.Nat.{ℕ, zero, suc, _+_, _-_, _≤_, _<_}
 use native.Mathlib.Nat.{le-of-suc-le-suc, not-suc-le-zero}
 use native.Mathlib.Numerals.{add-one}
 use native.Mathlib.Omega.{arith}
-use lib.ListN.{length, getD, drop, drop-of-length-le, length-take, length-drop}
-use lib.Seq.{drop-cons}
+use lib.ListN.{length, getD, take, drop, drop-of-length-le, take-append-drop, length-append, length-take, length-drop}
+use lib.Seq.{drop-cons, take-all, take-at, drop-at, drop-drop}
 use Rattle.octets.specs.Tests.{also, every, all, partOf}
 
 pub and-left : (a b : Bool) → (a && b) ≡ true → a ≡ true
@@ -74,3 +74,41 @@ every-not ts i e = go (every ts) refl
 
 pub length-part : (s : List ℕ) (i n : ℕ) → i + n ≤ length s → length (partOf s i n) ≡ n
 length-part s i n h = simp (length-take, length-drop) (omega arith)
+
+-- a part is no longer than was asked for
+pub part-short : (s : List ℕ) (i n : ℕ) → length (partOf s i n) ≤ n
+part-short s i n = simp length-take (omega arith)
+
+-- what is left from place `at`, as it is lent
+pub rest-all : (s : List ℕ) (at : ℕ) → take (length s - at) (drop at s) ≡ drop at s
+rest-all s at = take-all (length s - at) (drop at s) (omega (arith, length-drop at s))
+
+-- a string from a place on: its next n elements, and what comes after them
+pub part-next : (s : List ℕ) (i n : ℕ) → partOf s i n ++ drop (i + n) s ≡ drop i s
+part-next s i n = ap (λ (l : List ℕ). partOf s i n ++ l) (sym (drop-drop n i s)) ∙ take-append-drop n (drop i s)
+
+pub part-last : (s : List ℕ) (i n : ℕ) → length s ≡ i + n → partOf s i n ≡ drop i s
+part-last s i n e = take-all n (drop i s) (omega (arith, length-drop i s))
+
+-- four parts end to end
+pub parts-whole : (s : List ℕ) (a b c d : ℕ) → length s ≡ a + b + c + d
+    → partOf s 0 a ++ (partOf s a b ++ (partOf s (a + b) c ++ partOf s (a + b + c) d)) ≡ s
+parts-whole s a b c d e =
+    ap (λ (l : List ℕ). partOf s 0 a ++ (partOf s a b ++ (partOf s (a + b) c ++ l))) (part-last s (a + b + c) d e)
+    ∙ ap (λ (l : List ℕ). partOf s 0 a ++ (partOf s a b ++ l)) (part-next s (a + b) c)
+    ∙ ap (λ (l : List ℕ). partOf s 0 a ++ l) (part-next s a b)
+    ∙ take-append-drop a s
+
+-- three strings end to end
+pub part-at : (a b c : List ℕ) (i n : ℕ) → length a ≡ i → length b ≡ n → partOf (a ++ (b ++ c)) i n ≡ b
+part-at a b c i n ea eb = ap (take n) (drop-at a (b ++ c) i ea) ∙ take-at b c n eb
+
+pub part-after : (a b c : List ℕ) (i n : ℕ) → length a + length b ≡ i → length c ≡ n → partOf (a ++ (b ++ c)) i n ≡ c
+part-after a b c i n eab ec =
+    ap (λ (l : List ℕ). partOf l i n) (sym (append-assoc a b c))
+    ∙ ap (take n) (drop-at (a ++ b) c i (length-append a b ∙ eab))
+    ∙ take-all n c (omega arith)
+
+-- the rest from a place, as a part that may be as long as the whole
+pub part-rest : (s : List ℕ) (i : ℕ) → partOf s i (length s) ≡ drop i s
+part-rest s i = take-all (length s) (drop i s) (simp length-drop (omega arith))

@@ -21,10 +21,6 @@ use Rattle.record.proofs.Numbers.{iv-size, tag-size, key-size}
 use Rattle.record.proofs.Parts.{length-frontIn, length-ivIn, length-textIn, length-tagIn}
 use Rattle.record.proofs.Reading.{Accepted, name-short, count-small}
 
--- a part is no longer than was asked for
-pub part-short : (s : List ℕ) (i n : ℕ) → length (partOf s i n) ≤ n
-part-short s i n = simp length-take (omega arith)
-
 -- what the tag decided, by the number that was answered
 module _ (right : Bool) (s out after : List ℕ) (x : ℕ) (e : answer (lowest ((9, not right) ∷ [])) s out ≡ (x, after)) where
   pub tag-wrong : (x ≡ 0 → ⊥) → (right ≡ false) × (after ≡ out)

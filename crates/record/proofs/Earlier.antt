@@ -10,12 +10,16 @@ use lib.ListN.{length, take, drop}
 use Rattle.octets.specs.Lent.{over, answer}
 use Rattle.keytable.specs.Row.{useOf, keyOf}
 use Rattle.keytable.specs.Table.{tableOk, rowFor}
+use Rattle.session.specs.Iv.{ivOf}
+use Rattle.session.specs.Calls.{sessionAfter}
 use Rattle.record.specs.Record.{countIn, nameIn}
 use Rattle.record.specs.Seal.{recordBy, sealedSize, sealNumber, sealRow}
 use Rattle.record.specs.Open.{plaintextIn, openNumber, openRow}
-use Rattle.record.specs.Laws.{Alike, SealEarlier, OpenEarlier}
-use Rattle.record.proofs.Lent.{answer-done, take-over, drop-over}
+use Rattle.record.specs.Next.{sealNextNumber, sealNextRow}
+use Rattle.record.specs.Laws.{Alike, SealEarlier, NextEarlier, OpenEarlier}
+use Rattle.octets.proofs.Lent.{answer-done, take-over, drop-over}
 use Rattle.record.proofs.Sealed.{seal-row, sealable, length-recordOf}
+use Rattle.record.proofs.WithSession.{next-zero}
 use Rattle.record.proofs.Opened.{open-row, openable, length-plaintextBy}
 
 -- where a result comes with 0, it has its size and fits the output
@@ -62,6 +66,18 @@ seal-alike t name iv a p out out′ same =
   where
     number : ℕ → ℕ
     number room = sealNumber (tableOk t) (rowFor t name) name iv a p room
+
+pub next-alike : NextEarlier
+unfolding sealNextRow
+next-alike s t name a p out out′ same = (
+  answers-alike (number (length out)) (number (length out′)) (sealedSize (rowFor t name) name p) (recordBy (rowFor t name) name (ivOf s) a p) out out′
+      (ap number same) same
+      (λ e. record-fits (tableOk t) (rowFor t name) name (ivOf s) a p (length out) (next-zero s (tableOk t) (rowFor t name) name a p (length out) e .0)),
+  ap (λ (n : ℕ). sessionAfter (number n) s) same,
+)
+  where
+    number : ℕ → ℕ
+    number room = sealNextNumber s (tableOk t) (rowFor t name) name a p room
 
 -- ---- opening
 

@@ -16,7 +16,7 @@ use Rattle.modes.specs.Calls.{textMax, encryptAnswer}
 use Rattle.modes.specs.Laws.{SealedLength}
 use Rattle.modes.proofs.Laws.{ccm-lawful, gcm-lawful}
 use Rattle.modes.proofs.Numbers.{sizes-right, tooLong-short, encrypt-zero}
-use Rattle.modes.proofs.Sealed.{over-front, over-then}
+use Rattle.octets.proofs.Lent.{over-front, over-then}
 use Rattle.record.specs.Record.{modeOf, endAt, header, front}
 use Rattle.record.specs.Seal.{callersMax, recordOf}
 use Rattle.record.proofs.Written.{length-front}

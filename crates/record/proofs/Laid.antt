@@ -9,6 +9,7 @@ use lib.ListN.{length, take, length-append}
 use lib.Seq.{take-at, drop-at, take-all}
 use Rattle.octets.specs.Tests.{partOf}
 use Rattle.octets.proofs.BigEndian.{number-be}
+use Rattle.octets.proofs.Tests.{part-at, part-after}
 use Rattle.keytable.specs.Row.{nameMax}
 use Rattle.modes.specs.Calls.{textMax}
 use Rattle.record.specs.Record.{modeOf, ivAt, textAt, tagAt, endAt, layoutOk, frontIn, ivIn, textIn, tagIn, header, front}
@@ -16,19 +17,6 @@ use Rattle.record.specs.Laws.{ReadBack}
 use Rattle.record.proofs.Numbers.{iv-size}
 use Rattle.record.proofs.Parts.{Kept, kept-layout}
 use Rattle.record.proofs.Written.{length-front, read-back}
-
--- ---- three strings end to end
-
-part-at : (a b c : List ℕ) (i n : ℕ) → length a ≡ i → length b ≡ n → partOf (a ++ (b ++ c)) i n ≡ b
-part-at a b c i n ea eb = ap (take n) (drop-at a (b ++ c) i ea) ∙ take-at b c n eb
-
-part-after : (a b c : List ℕ) (i n : ℕ) → length a + length b ≡ i → length c ≡ n → partOf (a ++ (b ++ c)) i n ≡ c
-part-after a b c i n eab ec =
-    ap (λ (l : List ℕ). partOf l i n) (sym (append-assoc a b c))
-    ∙ ap (take n) (drop-at (a ++ b) c i (length-append a b ∙ eab))
-    ∙ take-all n c (omega arith)
-
--- ---- a record
 
 abbrev pub laid : ℕ → List ℕ → ℕ → List ℕ → List ℕ → List ℕ → List ℕ
 laid u name n iv c g = front u name n ++ (iv ++ (c ++ g))

@@ -16,7 +16,7 @@ use Rattle.record.specs.Record.{nameIn, ivIn}
 use Rattle.record.specs.Read.{headerSays}
 use Rattle.record.specs.Open.{plaintextBy, openNumber}
 use Rattle.record.specs.Demand3.{Refuses, OpensExactly, OnePlaintext, OneOpening, ElseRefuses, SealedOpens}
-use Rattle.record.specs.Laws.{HeaderThere, HeaderBack, SealOtherRows, OpenOtherRows, SealEarlier, OpenEarlier, ReadUnique, CheckUnique, SealUnique, OpenUnique}
+use Rattle.record.specs.Laws.{HeaderThere, HeaderBack, SealOtherRows, OpenOtherRows, SealEarlier, NextEarlier, OpenEarlier, ReadUnique, CheckUnique, SealUnique, OpenUnique}
 use Rattle.record.specs.declared.header.Header.{Header}
 use Rattle.record.specs.declared.header.Header.the-variants.{Fields, BadForm, BadMode, TooLong}
 use Rattle.record.proofs.Written.{read-back, front-back}
@@ -24,7 +24,7 @@ use Rattle.record.proofs.Laid.{Laid}
 use Rattle.record.proofs.Sealed.{textBy, tagBy, SealedAs, seals-as, as-seals, as-laid}
 use Rattle.record.proofs.Opened.{OpenedAs, open-row, openable, open-refused, opens-as, as-opens}
 use Rattle.record.proofs.Exactly.{plaintext-back, opened-sealed, sealed-opened}
-use Rattle.record.proofs.Earlier.{seal-alike, open-alike}
+use Rattle.record.proofs.Earlier.{seal-alike, next-alike, open-alike}
 
 -- ---- demand 3
 
@@ -114,6 +114,9 @@ open-other-rows t u r a out count ok-t ok-u e = rw (ok-t, ok-u, e)
 
 pub seal-earlier : SealEarlier
 seal-earlier = seal-alike
+
+pub next-earlier : NextEarlier
+next-earlier = next-alike
 
 pub open-earlier : OpenEarlier
 open-earlier = open-alike

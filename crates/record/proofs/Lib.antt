@@ -1,14 +1,15 @@
-pub mod Lent
 pub mod Numbers
 pub mod Parts
 pub mod Reading
 pub mod Apart
 pub mod Written
 pub mod Filled
-pub mod Rows
 pub mod Laid
 pub mod Sealed
+pub mod Ready
+pub mod WithSession
 pub mod Opened
 pub mod Exactly
 pub mod Earlier
 pub mod Laws
+pub mod SessionLaws

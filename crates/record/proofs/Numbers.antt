@@ -21,7 +21,7 @@ use Rattle.modes.proofs.CcmLaws.{ccm-fitting}
 use Rattle.modes.proofs.GcmLaws.{gcm-fitting}
 use Rattle.record.specs.Record.{permitted, modeOf, modeIn, countIn, nameSize, layoutOk}
 use Rattle.record.specs.Read.{passes}
-use Rattle.record.specs.Seal.{callersMax, recordOf, sealNumber, sealRow}
+use Rattle.record.specs.Seal.{callersMax, sealNumber, readyBy}
 use Rattle.record.specs.Open.{authenticBy, plaintextBy, openNumber, openRow}
 
 -- ---- lengths by mode
@@ -54,51 +54,51 @@ too-long name a p = passes (length name) (length p) || ltb callersMax (length a)
 abbrev no-room : List ℕ → List ℕ → ℕ → Bool
 no-room name p room = ltb room (24 + length name + 12 + length p + 16)
 
-module _ (ok : Bool) (row : Option (List ℕ)) (name iv a p out : List ℕ) where
-  seal-numbers : sealNumber ok row name iv a p (length out)
+module _ (ok : Bool) (row : Option (List ℕ)) (name iv a p : List ℕ) (room : ℕ) where
+  seal-numbers : sealNumber ok row name iv a p room
       ≡ lowest
       ((1, not ok)
       ∷ (2, short-or-wrong name iv)
       ∷ (4, too-long name a p)
-      ∷ (5, no-room name p (length out))
+      ∷ (5, no-room name p room)
       ∷ (6, missing row)
       ∷ (7, not (permitted (useIn row)))
       ∷ [])
   unfolding sealNumber
   seal-numbers = rw (iv-size (useIn row), tag-size (useIn row))
 
-  pub seal-one : ok ≡ false → sealRow ok row name iv a p out ≡ (1, out)
-  unfolding sealRow
-  seal-one e = rw (seal-numbers, e)
+  pub ready-one : ok ≡ false → readyBy ok row name iv a p room ≡ (1, none)
+  unfolding readyBy
+  ready-one e = rw (seal-numbers, e)
 
   module _ (good : ok ≡ true) where
-    pub seal-two : short-or-wrong name iv ≡ true → sealRow ok row name iv a p out ≡ (2, out)
-    unfolding sealRow
-    seal-two e = rw (seal-numbers, good, e)
+    pub ready-two : short-or-wrong name iv ≡ true → readyBy ok row name iv a p room ≡ (2, none)
+    unfolding readyBy
+    ready-two e = rw (seal-numbers, good, e)
 
     module _ (sizes : short-or-wrong name iv ≡ false) where
-      pub seal-four : too-long name a p ≡ true → sealRow ok row name iv a p out ≡ (4, out)
-      unfolding sealRow
-      seal-four e = rw (seal-numbers, good, sizes, e)
+      pub ready-four : too-long name a p ≡ true → readyBy ok row name iv a p room ≡ (4, none)
+      unfolding readyBy
+      ready-four e = rw (seal-numbers, good, sizes, e)
 
       module _ (short : too-long name a p ≡ false) where
-        pub seal-five : no-room name p (length out) ≡ true → sealRow ok row name iv a p out ≡ (5, out)
-        unfolding sealRow
-        seal-five e = rw (seal-numbers, good, sizes, short, e)
+        pub ready-five : no-room name p room ≡ true → readyBy ok row name iv a p room ≡ (5, none)
+        unfolding readyBy
+        ready-five e = rw (seal-numbers, good, sizes, short, e)
 
-        module _ (room : no-room name p (length out) ≡ false) where
-          pub seal-six : row ≡ none → sealRow ok row name iv a p out ≡ (6, out)
-          unfolding sealRow
-          seal-six e = rw (seal-numbers, good, sizes, short, room, e)
+        module _ (fits : no-room name p room ≡ false) where
+          pub ready-six : row ≡ none → readyBy ok row name iv a p room ≡ (6, none)
+          unfolding readyBy
+          ready-six e = rw (seal-numbers, good, sizes, short, fits, e)
 
           module _ (found : List ℕ) (has : row ≡ some found) where
-            pub seal-seven : permitted (useOf found) ≡ false → sealRow ok row name iv a p out ≡ (7, out)
-            unfolding sealRow
-            seal-seven e = rw (seal-numbers, good, sizes, short, room, has, e)
+            pub ready-seven : permitted (useOf found) ≡ false → readyBy ok row name iv a p room ≡ (7, none)
+            unfolding readyBy
+            ready-seven e = rw (seal-numbers, good, sizes, short, fits, has, e)
 
-            pub seal-zero : permitted (useOf found) ≡ true → sealRow ok row name iv a p out ≡ (0, over (recordOf (useOf found) (keyOf found) name iv a p) out)
-            unfolding sealRow
-            seal-zero e = rw (seal-numbers, good, sizes, short, room, has, e)
+            pub ready-zero : permitted (useOf found) ≡ true → readyBy ok row name iv a p room ≡ (0, some found)
+            unfolding readyBy
+            ready-zero e = rw (seal-numbers, good, sizes, short, fits, has, e)
 
 -- ---- opening
 

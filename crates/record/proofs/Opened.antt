@@ -17,7 +17,7 @@ use Rattle.record.specs.Record.{permitted, modeIn, countIn, nameSize, la
 use Rattle.record.specs.Seal.{callersMax}
 use Rattle.record.specs.Open.{authenticBy, plaintextBy, openTests, openNumber, openRow, openAnswer}
 use Rattle.record.specs.Demand3.{Opens}
-use Rattle.record.proofs.Lent.{testAt, none-applies, over-injective}
+use Rattle.octets.proofs.Lent.{testAt, none-applies, over-injective}
 use Rattle.record.proofs.Parts.{length-textIn}
 use Rattle.record.proofs.Numbers.{fitting, within-maxima, maxima-kept}
 

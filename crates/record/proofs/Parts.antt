@@ -10,7 +10,7 @@ use lib.ListN.{length, getD, drop, take-append-drop, length-drop}
 use lib.Seq.{take-all, drop-drop}
 use Rattle.octets.specs.BigEndian.{numberAt}
 use Rattle.octets.specs.Tests.{partOf}
-use Rattle.octets.proofs.Tests.{every-at, length-part}
+use Rattle.octets.proofs.Tests.{every-at, length-part, parts-whole}
 use Rattle.record.specs.Record.{recordFormat, nameAt, ivAt, textAt, tagAt, endAt, countIn, nameSize, modeFor, layoutTests, layoutOk, frontIn, nameIn, ivIn, textIn, tagIn}
 
 -- each word of the header and the end, as the layout has them
@@ -57,22 +57,6 @@ kept-layout r h =
       eq-eqb (numberAt 4 r 20) (tagAt (modeFor r) (nameSize r) (countIn r)) (h .tag-at),
       eq-eqb (length r) (endAt (modeFor r) (nameSize r) (countIn r)) (h .end-at),
     )
-
--- a string from a place on: its next n elements, and what comes after them
-part-next : (s : List ℕ) (i n : ℕ) → partOf s i n ++ drop (i + n) s ≡ drop i s
-part-next s i n = ap (λ (l : List ℕ). partOf s i n ++ l) (sym (drop-drop n i s)) ∙ take-append-drop n (drop i s)
-
-part-last : (s : List ℕ) (i n : ℕ) → length s ≡ i + n → partOf s i n ≡ drop i s
-part-last s i n e = take-all n (drop i s) (omega (arith, length-drop i s))
-
--- four parts end to end
-parts-whole : (s : List ℕ) (a b c d : ℕ) → length s ≡ a + b + c + d
-    → partOf s 0 a ++ (partOf s a b ++ (partOf s (a + b) c ++ partOf s (a + b + c) d)) ≡ s
-parts-whole s a b c d e =
-    ap (λ (l : List ℕ). partOf s 0 a ++ (partOf s a b ++ (partOf s (a + b) c ++ l))) (part-last s (a + b + c) d e)
-    ∙ ap (λ (l : List ℕ). partOf s 0 a ++ (partOf s a b ++ l)) (part-next s (a + b) c)
-    ∙ ap (λ (l : List ℕ). partOf s 0 a ++ l) (part-next s a b)
-    ∙ take-append-drop a s
 
 module _ (r : List ℕ) (layout : layoutOk r ≡ true) where
   ends : length r ≡ endAt (modeFor r) (nameSize r) (countIn r)

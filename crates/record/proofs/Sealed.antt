@@ -19,7 +19,7 @@ use Rattle.record.specs.Record.{permitted, modeOf, endAt, front}
 use Rattle.record.specs.Seal.{callersMax, recordOf, sealedSize, sealTests, sealNumber, sealRow, sealAnswer}
 use Rattle.record.specs.Demand3.{Seals}
 use Rattle.record.proofs.Numbers.{fitting, within-maxima, maxima-kept}
-use Rattle.record.proofs.Lent.{testAt, none-applies, answer-done, answer-zero}
+use Rattle.octets.proofs.Lent.{testAt, none-applies, answer-done, answer-zero}
 use Rattle.record.proofs.Laid.{laid, Laid, length-laid, laid-out}
 
 -- ---- the tests

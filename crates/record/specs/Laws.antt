@@ -1,19 +1,25 @@
 -- What the records promise beside demand 3, as statements; proofs/Laws.antt proves each.
 -- Assumes nothing.
 use mathlib.Core.Path.{_≡_}
-use mathlib.Core.Bool.{true}
+use mathlib.Core.Logic.{_↔_}
+use mathlib.Core.Bool.{true, false}
 use mathlib.Core.List.{List, _++_}
-use Prim.Native.Nat.{ℕ, _≤_}
+use Prim.Native.Nat.{ℕ, zero, suc, _^_, _≤_, _<_}
 use lib.ListN.{length, take, drop}
 use Rattle.octets.specs.Bytes.{Bytes}
 use Rattle.keytable.specs.Row.{nameMax}
 use Rattle.keytable.specs.Table.{tableOk, rowFor}
 use Rattle.modes.specs.Calls.{textMax}
-use Rattle.record.specs.Record.{modeIn, countIn, nameSize, layoutOk, frontIn, nameIn, front}
+use Rattle.session.specs.Iv.{isSpent, ivOf, after}
+use Rattle.session.specs.Calls.{Answer, sessionAfter}
+use Rattle.session.specs.declared.Session.{Session}
+use Rattle.record.specs.Record.{modeIn, countIn, nameSize, layoutOk, frontIn, nameIn, ivIn, front}
 use Rattle.record.specs.Read.{headerSays, readNumber, readAnswer}
 use Rattle.record.specs.Seal.{sealedSize, sealAnswer}
 use Rattle.record.specs.Open.{openAnswer}
+use Rattle.record.specs.Next.{sealNextAnswer}
 use Rattle.record.specs.declared.header.Header.{Header}
+use Rattle.record.specs.declared.next.Sealed.{Sealed}
 
 -- ---- the header, there and back
 
@@ -43,6 +49,11 @@ OpenOtherRows =
     (t u r a out : List ℕ) (count : ℕ) → tableOk t ≡ true → tableOk u ≡ true → rowFor t (nameIn r) ≡ rowFor u (nameIn r)
     → openAnswer t r a out count ≡ openAnswer u r a out count
 
+abbrev pub NextOtherRows : Type 0
+NextOtherRows =
+    (s : Session) (t u name a p out : List ℕ) → tableOk t ≡ true → tableOk u ≡ true → rowFor t name ≡ rowFor u name
+    → sealNextAnswer s t name a p out ≡ sealNextAnswer s u name a p out
+
 -- ---- what an output held before never matters, only its length: two outputs of one length get one number, and after 0 the same bytes up to
 -- the result's end and their own after it
 
@@ -62,6 +73,76 @@ OpenEarlier =
     (t r a out out′ : List ℕ) (count count′ : ℕ) → length out ≡ length out′
     → Alike (countIn r) out out′ (openAnswer t r a out count .0) (openAnswer t r a out′ count′ .0)
 
+-- with a session, which is then left the same too
+abbrev pub NextEarlier : Type 0
+NextEarlier =
+    (s : Session) (t name a p out out′ : List ℕ) → length out ≡ length out′
+    → let x = sealNextAnswer s t name a p out in
+    let x′ = sealNextAnswer s t name a p out′ in
+    Alike (sealedSize (rowFor t name) name p) out out′ (x .0, x .1) (x′ .0, x′ .1) × (x .2 ≡ x′ .2)
+
+-- ---- sealing with a session
+
+-- a session that is not spent answers as sealing with its next IV does, and one that is spent gives 10 where that would give 0
+abbrev pub NextLive : Type 0
+NextLive =
+    (s : Session) (t name a p out : List ℕ) → isSpent s ≡ false
+    → let x = sealAnswer t name (ivOf s) a p out in
+    sealNextAnswer s t name a p out ≡ (x .0, x .1, sessionAfter (x .0) s)
+
+abbrev pub NextSpent : Type 0
+NextSpent =
+    (s : Session) (t name a p out : List ℕ) → isSpent s ≡ true → sealAnswer t name (ivOf s) a p out .0 ≡ 0
+    → sealNextAnswer s t name a p out ≡ (10, out, s)
+
+-- what it writes with 0 is what sealing with that IV writes
+abbrev pub NextSeals : Type 0
+NextSeals =
+    (s : Session) (t name a p out : List ℕ) → sealNextAnswer s t name a p out .0 ≡ 0
+    → sealAnswer t name (ivOf s) a p out ≡ (0, sealNextAnswer s t name a p out .1)
+
+-- the session advances exactly when the answer is 0
+abbrev pub NextAdvances : Type 0
+NextAdvances =
+    (s : Session) (t name a p out : List ℕ)
+    → let x = sealNextAnswer s t name a p out in
+    (x .0 ≡ 0 → x .2 ≡ after s) × (x .0 ≡ 0 ↔ (x .2 ≡ s → ⊥))
+
+-- "After any but 0, each lent buffer and session is unchanged"
+abbrev pub NextRefused : Type 0
+NextRefused =
+    (s : Session) (t name a p out : List ℕ)
+    → let x = sealNextAnswer s t name a p out in
+    (x .0 ≡ 0 → ⊥) → x ≡ (x .0, out, s)
+
+-- calls one after another: what is lent to each beside the session
+pub record Lent : Type 0 where
+  pub table : List ℕ
+  pub name : List ℕ
+  pub aad : List ℕ
+  pub plain : List ℕ
+  pub out : List ℕ
+
+abbrev pub sealNext : Session → Lent → Answer
+sealNext s l = sealNextAnswer s (l .table) (l .name) (l .aad) (l .plain) (l .out)
+
+-- the session before call number i, from 0; that call; and the record that it wrote where it gave 0
+abbrev pub before : (ℕ → Lent) → Session → ℕ → Session
+before lent s zero = s
+before lent s (suc i) = sealNext (before lent s i) (lent i) .2
+
+abbrev pub call : (ℕ → Lent) → Session → ℕ → Answer
+call lent s i = sealNext (before lent s i) (lent i)
+
+abbrev pub written : (ℕ → Lent) → Session → ℕ → List ℕ
+written lent s i = take (sealedSize (rowFor (lent i .table) (lent i .name)) (lent i .name) (lent i .plain)) (call lent s i .1)
+
+-- "So one session's IVs all differ": the records of one session have different IVs, whatever was lent and whatever was refused between them
+abbrev pub RecordsDiffer : Type 0
+RecordsDiffer =
+    (s : Session) (lent : ℕ → Lent) (i j : ℕ) → s .next < 2 ^ 64 → call lent s i .0 ≡ 0 → call lent s j .0 ≡ 0
+    → ivIn (written lent s i) ≡ ivIn (written lent s j) → i ≡ j
+
 -- ---- for each input one answer, and one state of what is lent
 
 abbrev pub ReadUnique : Type 0
@@ -76,3 +157,12 @@ SealUnique = (t name iv a p out : List ℕ) (x y : ℕ × List ℕ) → sealAnsw
 abbrev pub OpenUnique : Type 0
 OpenUnique =
     (t r a out : List ℕ) (count : ℕ) (x y : (ℕ × List ℕ) × ℕ) → openAnswer t r a out count ≡ x → openAnswer t r a out count ≡ y → x ≡ y
+
+abbrev pub SealByUnique : Type 0
+SealByUnique =
+    (s : Session) (t name a p out : List ℕ) (x y : Sealed) (left left′ : List ℕ)
+    → sealNextAnswer s t name a p out ≡ (x .number, left, x .session) → sealNextAnswer s t name a p out ≡ (y .number, left′, y .session)
+    → (x ≡ y) × (left ≡ left′)
+
+abbrev pub SealNextUnique : Type 0
+SealNextUnique = (s : Session) (t name a p out : List ℕ) (x y : Answer) → sealNextAnswer s t name a p out ≡ x → sealNextAnswer s t name a p out ≡ y → x ≡ y

@@ -6,13 +6,15 @@ use mathlib.Core.List.{List, [], _∷_, _++_}
 use mathlib.Core.Option.{Option, some, none}
 use lib.ListN.{length}
 use lib.Dec.{eqb, ltb}
-use Rattle.octets.specs.Lent.{isNot, lowest, answer}
+use Rattle.octets.specs.Lent.{when, isNot, lowest, answer}
 use Rattle.keytable.specs.Row.{useOf, keyOf}
-use Rattle.keytable.specs.Table.{tableOk, rowFor}
+use Rattle.keytable.specs.Table.{tableOk, rowFor, rowAt}
 use Rattle.keytable.specs.Calls.{missing, useIn}
 use Rattle.modes.specs.Mode.{sealed}
 use Rattle.record.specs.Record.{permitted, modeOf, endAt, front}
 use Rattle.record.specs.Read.{passes}
+use Rattle.record.specs.declared.sealing.Ready.{Ready}
+use Rattle.record.specs.declared.sealing.Ready.the-variants.{At, Refused}
 
 -- "Caller's associated data 0 to 4,096"
 abbrev pub callersMax : ℕ
@@ -43,6 +45,21 @@ sealTests ok row name iv a p room =
 
 unfoldable pub sealNumber : Bool → Option (List ℕ) → List ℕ → List ℕ → List ℕ → List ℕ → ℕ → ℕ
 sealNumber ok row name iv a p room = lowest (sealTests ok row name iv a p room)
+
+-- the tests by themselves: each case's number, and the row that comes with 0
+abbrev pub readyNumber : Ready → ℕ
+readyNumber (At place) = 0
+readyNumber (Refused n) = n
+
+abbrev pub readyRow : List ℕ → Ready → Option (List ℕ)
+readyRow t (At place) = some (rowAt t place)
+readyRow t (Refused n) = none
+
+unfoldable pub readyBy : Bool → Option (List ℕ) → List ℕ → List ℕ → List ℕ → List ℕ → ℕ → ℕ × Option (List ℕ)
+readyBy ok row name iv a p room = (sealNumber ok row name iv a p room, when (eqb (sealNumber ok row name iv a p room) 0) row none)
+
+abbrev pub readyAnswer : List ℕ → List ℕ → List ℕ → List ℕ → List ℕ → ℕ → ℕ × Option (List ℕ)
+readyAnswer t name iv a p room = readyBy (tableOk t) (rowFor t name) name iv a p room
 
 -- by whether the table is accepted and the row that matched
 unfoldable pub sealRow : Bool → Option (List ℕ) → List ℕ → List ℕ → List ℕ → List ℕ → List ℕ → ℕ × List ℕ

@@ -1,4 +1,4 @@
-// Sealing a record: every refusal comes before the first write.
+// Sealing a record: the tests by themselves, which write nothing, and then the record.
 use crate::header::front_of;
 use crate::header::passes_maximum;
 use crate::header::put_both;
@@ -14,13 +14,21 @@ use keytable::key_at;
 use keytable::use_at;
 use octets::strings::part;
 ghost use mathlib.Core.Path.{_≡_};
+ghost use mathlib.Core.Option.{some};
 ghost use Prim.Native.Nat.{_≤_};
 ghost use lib.ListN.{length};
 ghost use Rattle.octets.specs.Lent.{over};
 ghost use Rattle.keytable.specs.Row.{nameMax, keySize};
+ghost use Rattle.keytable.specs.Table.{rowFor, rowAt};
 ghost use Rattle.modes.specs.Calls.{textMax};
 ghost use Rattle.record.specs.Record.{modeOf, endAt};
-ghost use Rattle.record.specs.Seal.{callersMax, recordOf, sealAnswer};
+ghost use Rattle.record.specs.Seal.{callersMax, recordOf, recordBy, readyNumber, readyRow, readyAnswer, sealAnswer};
+
+// What the tests of sealing find: the place of the name's row, or the lowest number that applies.
+pub(crate) enum Ready {
+    At(usize),
+    Refused(u8),
+}
 
 // Writes the record of a use and a key.
 fn fill(u: u8, key: &[u8], name: &[u8], iv: &[u8], aad: &[u8], plain: &[u8], out: &mut [u8])
@@ -35,29 +43,73 @@ fn fill(u: u8, key: &[u8], name: &[u8], iv: &[u8], aad: &[u8], plain: &[u8], out
     encrypt(u, key, iv, front, aad, plain, &mut out[text_at..]);
 }
 
+// Every test of sealing into so much room.
+pub(crate) fn test(
+    table: &[u8],
+    name: &[u8],
+    iv: &[u8],
+    aad: &[u8],
+    plain: &[u8],
+    room: usize,
+) -> Ready
+    ensures { λ r. ⌜ readyAnswer (now (table .entry)) (now (name .entry)) (now (iv .entry)) (now (aad .entry)) (now (plain .entry)) room ≡ (readyNumber r, readyRow (now (table .entry)) r) ⌝ }
+{
+    let Table::Rows(_) = keytable::check(table) else {
+        return Ready::Refused(1);
+    };
+    if (name.len() == 0) | (iv.len() != IV_SIZE) {
+        return Ready::Refused(2);
+    }
+    if passes_maximum(name.len(), plain.len()) | (CALLERS_MAX < aad.len()) {
+        return Ready::Refused(4);
+    }
+    if room < NAME_AT + name.len() + IV_SIZE + plain.len() + TAG_SIZE {
+        return Ready::Refused(5);
+    }
+    let Found::At(at) = keytable::find(table, name) else {
+        return Ready::Refused(6);
+    };
+    if !is_permitted(use_at(table, at)) {
+        return Ready::Refused(7);
+    }
+    Ready::At(at)
+}
+
+// The number of what the tests found.
+pub(crate) fn number_of(r: Ready) -> u8
+    ensures { λ n. ⌜ n ≡ readyNumber r ⌝ }
+{
+    match r {
+        Ready::At(_) => 0,
+        Ready::Refused(n) => n,
+    }
+}
+
+// Writes the record by the row at the place that the tests found.
+pub(crate) fn write(
+    table: &[u8],
+    at: usize,
+    name: &[u8],
+    iv: &[u8],
+    aad: &[u8],
+    plain: &[u8],
+    out: &mut [u8],
+)
+    requires { ⌜ readyAnswer (now table) (now name) (now iv) (now aad) (now plain) (length (now out)) ≡ (0, some (rowAt (now table) at)) ⌝ }
+    ensures { λ _. ⌜ now (out .exit) ≡ over (recordBy (rowFor (now (table .entry)) (now (name .entry))) (now (name .entry)) (now (iv .entry)) (now (aad .entry)) (now (plain .entry))) (now (out .entry)) ⌝ }
+{
+    let u = use_at(table, at);
+    fill(u, key_at(table, at), name, iv, aad, plain, out);
+}
+
 // Seals: document 01's number, and after 0 the first 52 + k + n bytes of the output are the record.
 pub fn seal(table: &[u8], name: &[u8], iv: &[u8], aad: &[u8], plain: &[u8], out: &mut [u8]) -> u8
     ensures { λ r. ⌜ sealAnswer (now (table .entry)) (now (name .entry)) (now (iv .entry)) (now (aad .entry)) (now (plain .entry)) (now (out .entry)) ≡ (r, now (out .exit)) ⌝ }
 {
-    let Table::Rows(_) = keytable::check(table) else {
-        return 1;
+    let r = test(table, name, iv, aad, plain, out.len());
+    let Ready::At(at) = r else {
+        return number_of(r);
     };
-    if (name.len() == 0) | (iv.len() != IV_SIZE) {
-        return 2;
-    }
-    if passes_maximum(name.len(), plain.len()) | (CALLERS_MAX < aad.len()) {
-        return 4;
-    }
-    if out.len() < NAME_AT + name.len() + IV_SIZE + plain.len() + TAG_SIZE {
-        return 5;
-    }
-    let Found::At(at) = keytable::find(table, name) else {
-        return 6;
-    };
-    let u = use_at(table, at);
-    if !is_permitted(u) {
-        return 7;
-    }
-    fill(u, key_at(table, at), name, iv, aad, plain, out);
+    write(table, at, name, iv, aad, plain, out);
     0
 }

@@ -3,6 +3,7 @@ pub mod block;
 pub mod ivs;
 pub mod lists;
 pub mod mode;
+pub mod pages;
 pub mod sealing;
 pub mod table;
 pub mod wrap;

@@ -13,7 +13,7 @@ use Rattle.aes.specs.Cipher.{cipher}
 use Rattle.aes.proofs.Laws.{cipher-length}
 use Rattle.modes.specs.Counter.{counterBlock, ctr, frontOf}
 use Rattle.modes.specs.Ccm.{text}
-use Rattle.modes.proofs.Chained.{rest-all}
+use Rattle.octets.proofs.Tests.{rest-all}
 use Rattle.modes.proofs.Formatted.{front-base}
 use Rattle.modes.proofs.Opened.{opened-turn}
 use Rattle.modes.proofs.ccm.chain_opened.Statement.{statement}

@@ -7,7 +7,8 @@ use borrow.Author.Needs.{needs}
 use lib.ListN.{length-take}
 use Rattle.octets.specs.Running.{absorb}
 use Rattle.aes.specs.Cipher.{cipher}
-use Rattle.modes.proofs.Chained.{rest-all, absorb-to-block}
+use Rattle.modes.proofs.Chained.{absorb-to-block}
+use Rattle.octets.proofs.Tests.{rest-all}
 use Rattle.modes.proofs.chain.absorb.Statement.{statement}
 use Rattle.modes.proofs.chain.absorb.Tie as tie
 

@@ -9,7 +9,8 @@ use lib.ListN.{length, drop}
 use Rattle.octets.specs.Xor.{xors}
 use Rattle.octets.specs.Running.{absorb}
 use Rattle.aes.specs.Cipher.{cipher}
-use Rattle.modes.proofs.Chained.{rest-all, absorb-block-turn}
+use Rattle.modes.proofs.Chained.{absorb-block-turn}
+use Rattle.octets.proofs.Tests.{rest-all}
 use Rattle.modes.proofs.chain.absorb_blocks.Statement.{statement}
 use Rattle.modes.proofs.chain.absorb_blocks.Tie as tie
 

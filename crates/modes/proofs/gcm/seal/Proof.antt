@@ -15,7 +15,7 @@ use Rattle.aes_fast.specs.Right.{Ready}
 use Rattle.aes_fast.proofs.Laws.{made-ready}
 use Rattle.modes.specs.Gcm.{text, tagOf}
 use Rattle.modes.proofs.Tagged.{length-text, counter-text}
-use Rattle.modes.proofs.Sealed.{over-front, over-then}
+use Rattle.octets.proofs.Lent.{over-front, over-then}
 use Rattle.modes.proofs.gcm.seal.Statement.{statement}
 use Rattle.modes.proofs.gcm.seal.Tie as tie
 

@@ -2,7 +2,7 @@
 -- Assumes nothing.
 use mathlib.Core.Path.{refl}
 use lib.ListN.{length}
-use Rattle.modes.proofs.Sealed.{over-then}
+use Rattle.octets.proofs.Lent.{over-then}
 use borrow.Author.Needs.{needs}
 use Rattle.record.proofs.header.put_both.Statement.{statement}
 use Rattle.record.proofs.header.put_both.Tie as tie

@@ -24,8 +24,9 @@ use Rattle.record.proofs.Numbers.{open-one, open-four, open-five, open-
 use Rattle.record.specs.declared.header.Header.{Header}
 use Rattle.record.specs.declared.header.Header.the-variants.{Fields, BadForm, BadMode, TooLong}
 use Rattle.record.proofs.Reading.{Accepted, accepted, name-short, open-unread}
-use Rattle.record.proofs.Apart.{part-short, tag-wrong, tag-was-right}
-use Rattle.record.proofs.Rows.{no-row, the-row, row-key}
+use Rattle.record.proofs.Apart.{tag-wrong, tag-was-right}
+use Rattle.octets.proofs.Tests.{part-short}
+use Rattle.keytable.proofs.RowFound.{no-row, the-row, row-key}
 use borrow.Author.Needs.{needs}
 use Rattle.record.proofs.opening.open.Statement.{statement}
 use Rattle.record.proofs.opening.open.Tie as tie

@@ -1,118 +1,37 @@
--- `record::sealing::seal` meets its contract: at each return the tests passed and the one met say which number is the lowest.
+-- `record::sealing::seal` meets its contract: refused by its tests, or the record written by the row that they found.
 -- Assumes nothing.
-use mathlib.Core.Path.{_≡_, sym, ap, ap₂, _∙_}
-use mathlib.Core.Bool.{Bool, true, false, _||_}
-use mathlib.Core.List.{List}
-use Prim.Native.Nat.{ℕ, _≤_}
-use native.Mathlib.Omega.{arith}
-use borrow.Author.Tests.{lt-ltb, le-ltb, not-true, not-false}
-use lib.Dec.{eqb, ltb}
+use mathlib.Core.Path.{_≡_, ap, _∙_}
+use Prim.Native.Nat.{ℕ}
 use lib.ListN.{length}
-use Rattle.octets.specs.Lent.{isNot, over}
-use Rattle.octets.proofs.Tests.{or-right}
-use Rattle.octets.proofs.Lent.{isNot-false}
-use Rattle.keytable.specs.Row.{nameMax}
-use Rattle.keytable.specs.Table.{tableOk}
-use Rattle.keytable.proofs.Calls.{rows-accepted, broken-refused}
-use Rattle.modes.specs.Calls.{textMax}
-use Rattle.record.specs.Record.{permitted}
-use Rattle.record.specs.Read.{passes}
-use Rattle.record.specs.Seal.{callersMax, recordOf}
-use Rattle.record.proofs.Numbers.{within-maxima, iv-size, tag-size, seal-one, seal-two, seal-four, seal-five, seal-six, seal-seven, seal-zero}
-use Rattle.record.proofs.Rows.{no-row, the-row, row-key}
 use borrow.Author.Needs.{needs}
+use Rattle.record.specs.Seal.{readyNumber, readyRow, readyAnswer}
+use Rattle.record.specs.declared.sealing.Ready.{Ready}
+use Rattle.record.proofs.Ready.{seal-refused, seal-written}
 use Rattle.record.proofs.sealing.seal.Statement.{statement}
 use Rattle.record.proofs.sealing.seal.Tie as tie
 
--- what is known past each test
-accepted : (c : tie.After-enum-told) → tableOk (c .before .before .before .before .before .before .before .before .before .args .table .now) ≡ true
-accepted c = rows-accepted _ _ _ (c .before .before .check .ensures) (c .enum-told .given .1)
+abbrev start : tie.After-test → tie.Start
+start c = c .before .before .before .before .before .before .before
 
-short : (c : tie.Else2) → let a = c .before .before .before .before .before .before .before .before .before .before .before .before .args in (passes (length (a .name .now)) (length (a .plain .now)) || ltb callersMax (length (a .aad .now))) ≡ false
-short c = ap (λ (b : Bool). b || ltb callersMax (length (c .before .before .before .before .before .before .before .before .before .before .before .before .args .aad .now))) (sym (c .before .passes-maximum .ensures)) ∙ c .if2 .left
-
-small : (c : tie.Else2) → let a = c .before .before .before .before .before .before .before .before .before .before .before .before .args in (length (a .name .now) ≤ nameMax) × (length (a .plain .now) ≤ textMax) × (length (a .aad .now) ≤ callersMax)
-small c = within-maxima _ _ (c .before .before .before .before .before .before .before .before .before .before .before .before .args .aad .now) (short c)
+-- what the tests found, once it is known which case it is
+is : (c : tie.After-test) (r : Ready) → c .test .result ≡ r →
+    let a = start c .args in
+    readyAnswer (a .table .now) (a .name .now) (a .iv .now) (a .aad .now) (a .plain .now) (length (a .out .now)) ≡ (readyNumber r, readyRow (a .table .now) r)
+is c r e = c .test .ensures ∙ ap (λ (x : Ready). (readyNumber x, readyRow (start c .args .table .now) x)) e
 
 returns : tie.Need-returns
-returns c = seal-one _ _ _ _ _ _ _ (broken-refused _ _ (c .before .before .check .ensures) (c .enum-told2 .given .1))
+returns c =
+    let at = c .before .before .before in
+    rw (c .number-of .ensures, c .before .enum-told .given .1) (seal-refused _ _ _ _ _ _ _ _ (is at _ (c .before .enum-told .given .1)))
+
+write-requires : tie.Need-write-requires
+write-requires c κs = let at = c .before .before in is (at .before .before) _ (at .r .given .1)
 
 returns-2 : tie.Need-returns-2
-returns-2 c = seal-two _ _ _ _ _ _ _ (accepted (c .before)) (c .if1 .taken)
-
-returns-3 : tie.Need-returns-3
-returns-3 c =
-    let past = c .before .before in
-    let a = c .before .before .before .before .before .before .before .before .before .before .before .before .args in
-    let long : (passes (length (a .name .now)) (length (a .plain .now)) || ltb callersMax (length (a .aad .now))) ≡ true =
-    ap (λ (b : Bool). b || ltb callersMax (length (a .aad .now))) (sym (c .before .passes-maximum .ensures)) ∙ c .if2 .taken in
-    seal-four _ _ _ _ _ _ _ (accepted (past .before)) (past .if1 .left) long
-
-add-if3-3 : tie.Need-add-if3-3
-add-if3-3 c = omega (arith, small c .0, small c .1)
-
-add-if3-4 : tie.Need-add-if3-4
-add-if3-4 c = omega (arith, small c .0, small c .1)
-
-returns-4 : tie.Need-returns-4
-returns-4 c =
-    let past = c .before in
-    seal-five _ _ _ _ _ _ _ (accepted (past .before .before .before)) (past .before .before .if1 .left) (short past) (lt-ltb _ _ (c .if3 .taken))
-
-returns-5 : tie.Need-returns-5
-returns-5 c =
-    let roomy = c .before .before .before in
-    let past = roomy .before in
-    let ok = accepted (past .before .before .before) in
-    seal-six _ _ _ _ _ _ _ ok (past .before .before .if1 .left) (short past) (le-ltb _ _ (roomy .if3 .left))
-    (no-row _ _ _ ok (small past .0) (c .before .before .find .ensures) (c .enum-told3 .given .1))
-
--- past the lookup: the row, the tests before it, and the use
-module _ (c : tie.After-use-at) where
-  abbrev placed : tie.After-at
-  placed = c .before .before
-
-  abbrev roomy : tie.Else3
-  roomy = placed .before .before .before
-
-  abbrev past : tie.Else2
-  past = roomy .before
-
-  good : tableOk (past .before .before .before .before .before .before .before .before .before .before .before .before .args .table .now) ≡ true
-  good = accepted (past .before .before .before)
-
-returns-6 : tie.Need-returns-6
-returns-6 c =
-    let at = c .before .before in
-    seal-seven _ _ _ _ _ _ _ (good at) (past at .before .before .if1 .left) (short (past at)) (le-ltb _ _ (roomy at .if3 .left)) _
-    (the-row _ _ _ (good at) (small (past at) .0) (placed at .before .before .find .ensures) _ (placed at .at .given .1))
-    (ap permitted (sym (at .use-at .ensures)) ∙ (sym (c .before .is-permitted .ensures) ∙ not-true (c .before .is-permitted .result) (c .if4 .taken)))
-
-fill-requires : tie.Need-fill-requires
-fill-requires c κs =
-    let at = c .before .before .before .before in
-    let a = past at .before .before .before .before .before .before .before .before .before .before .before .before .args in
-    let u = at .use-at .result in
-    let wrong = past at .before .before .if1 .left in (
-      ap length (c .before .key-at .ensures) ∙ row-key _ _ _ (good at) (small (past at) .0) (placed at .before .before .find .ensures) _ (placed at .at .given .1),
-      small (past at) .0,
-      isNot-false 12 (a .iv .now) (or-right (eqb (length (a .name .now)) 0) (isNot 12 (a .iv .now)) wrong) ∙ sym (iv-size u),
-      small (past at) .2,
-      small (past at) .1,
-      omega (arith, iv-size u, tag-size u, roomy at .if3 .left),
-    )
-
-returns-7 : tie.Need-returns-7
-returns-7 c =
+returns-2 c =
     let done = c .before .before in
-    let at-key = done .before .before in
-    let last = at-key .before in
-    let at = last .before .before in
-    let a = past at .before .before .before .before .before .before .before .before .before .before .before .before .args in
-    seal-zero _ _ _ _ _ _ _ (good at) (past at .before .before .if1 .left) (short (past at)) (le-ltb _ _ (roomy at .if3 .left)) _
-    (the-row _ _ _ (good at) (small (past at) .0) (placed at .before .before .find .ensures) _ (placed at .at .given .1))
-    (ap permitted (sym (at .use-at .ensures)) ∙ (sym (last .before .is-permitted .ensures) ∙ not-false (last .before .is-permitted .result) (last .if4 .left)))
-    ∙ ap (λ (l : List ℕ). (0, l)) (sym (done .fill .ensures ∙ ap₂ (λ (u : ℕ) (key : List ℕ). over (recordOf u key (a .name .now) (a .iv .now) (a .aad .now) (a .plain .now)) (a .out .now)) (at .use-at .ensures) (at-key .key-at .ensures)))
+    let at = done .before .before .before in
+    seal-written _ _ _ _ _ _ _ _ _ (is (at .before .before) _ (at .r .given .1)) (done .write .ensures)
 
 pub seal-spec : {M : Type 1} → statement M
 seal-spec =
@@ -121,23 +40,8 @@ seal-spec =
     (λ c κs. search needs)
     (λ c. search needs)
     (λ c. search needs)
+    (λ c κs. search needs)
     returns
-    returns-2
-    (λ c κs. search needs)
-    returns-3
+    write-requires
     (λ c. search needs)
-    (λ c. search needs)
-    add-if3-3
-    add-if3-4
-    returns-4
-    (λ c κs. search needs)
-    (λ c. search needs)
-    (λ c. search needs)
-    returns-5
-    (λ c κs. search needs)
-    (λ c κs. search needs)
-    returns-6
-    (λ c κs. search needs)
-    fill-requires
-    (λ c. search needs)
-    returns-7)
+    returns-2)

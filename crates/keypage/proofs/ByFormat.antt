@@ -1,0 +1,42 @@
+-- What each format's value has, once the format is known; and which formats are known.
+-- Assumes nothing.
+use mathlib.Core.Path.{_≡_, refl, sym, _∙_}
+use mathlib.Core.Bool.{Bool, true, false, false≢true}
+use mathlib.Core.List.{List}
+use Prim.Native.Nat.{ℕ, _≤_}
+use borrow.Author.Tests.{ne-eqb, eqb-true, ltb-false}
+use lib.Dec.{eqb}
+use lib.ListN.{length}
+use Rattle.keytable.specs.Row.{nameMax}
+use Rattle.keypage.specs.KeyPart.{byFormat, identifierSize, partRefused, partLong}
+
+module _ {A : Type 0} (f : ℕ) (plain reference wrapped other : A) where
+  pub of-plain : f ≡ 0 → byFormat f plain reference wrapped other ≡ plain
+  of-plain e = rw e
+
+  pub of-reference : f ≡ 1 → byFormat f plain reference wrapped other ≡ reference
+  of-reference e = rw e
+
+  pub of-wrapped : f ≡ 4 → byFormat f plain reference wrapped other ≡ wrapped
+  of-wrapped e = rw e
+
+  pub of-other : (f ≡ 0 → ⊥) → (f ≡ 1 → ⊥) → (f ≡ 4 → ⊥) → byFormat f plain reference wrapped other ≡ other
+  of-other a b c = rw (ne-eqb f 0 a, ne-eqb f 1 b, ne-eqb f 4 c)
+
+-- a format that is not refused, and is neither of the first two, is the third
+pub third-format : (f : ℕ) (s : List ℕ) → partRefused f s ≡ false → (f ≡ 0 → ⊥) → (f ≡ 1 → ⊥) → f ≡ 4
+unfolding partRefused
+third-format f s known a b = go (eqb f 4) refl
+  where
+    go : (t : Bool) → eqb f 4 ≡ t → f ≡ 4
+    go true e = eqb-true f 4 e
+    go false e = absurd (false≢true (sym known ∙ rw (ne-eqb f 0 a, ne-eqb f 1 b, e)))
+
+-- the names that are looked up keep to their maximum
+pub reference-short : (s : List ℕ) → partLong 1 s ≡ false → length s ≤ nameMax
+unfolding partLong
+reference-short s e = ltb-false nameMax (length s) e
+
+pub identifier-short : (s : List ℕ) → partLong 4 s ≡ false → identifierSize s ≤ nameMax
+unfolding partLong
+identifier-short s e = ltb-false nameMax (identifierSize s) e

@@ -1,0 +1,120 @@
+-- The KEY part by its format: what its tests tell, and what passes them.
+-- Assumes nothing.
+use mathlib.Core.Path.{_≡_, refl, sym, ap}
+use mathlib.Core.Bool.{Bool, true, false, not, _||_, false≢true}
+use mathlib.Core.List.{List}
+use Prim.Native.Nat.{ℕ, _+_, _≤_}
+use native.Mathlib.Omega.{arith}
+use borrow.Author.Tests.{eqb-true, eqb-false, ltb-false, le-ltb, leb-true, le-leb, not-false}
+use lib.Dec.{eqb}
+use lib.ListN.{length}
+use Rattle.octets.specs.Lent.{when}
+use Rattle.octets.specs.Tests.{every}
+use Rattle.octets.proofs.Lent.{isNot-false, isNot-right}
+use Rattle.octets.proofs.Tests.{every-at}
+use Rattle.keytable.specs.Row.{nameMax, keySize}
+use Rattle.keypage.specs.KeyPart.{plainFormat, referenceFormat, wrappedFormat, referenceMin, kekType, identifierSize, identifierAt, wrappedTests, partBroken, partRefused, partLong, needsRow}
+use Rattle.keypage.specs.Laws.{PartLaid, plain, reference, wrapped}
+
+-- ---- the formats that are known
+
+pub data Known (f : ℕ) : Type 0 where
+  as-plain : f ≡ plainFormat → Known f
+  as-reference : f ≡ referenceFormat → Known f
+  as-wrapped : f ≡ wrappedFormat → Known f
+
+pub known : (f : ℕ) (s : List ℕ) → partRefused f s ≡ false → Known f
+unfolding partRefused
+known f s e = go (eqb f plainFormat) (eqb f referenceFormat) (eqb f wrappedFormat) refl refl refl e
+  where
+    go : (a b c : Bool) → eqb f plainFormat ≡ a → eqb f referenceFormat ≡ b → eqb f wrappedFormat ≡ c
+        → when a false (when b false (when c (not (eqb (kekType s) 1 || eqb (kekType s) 2)) true)) ≡ false → Known f
+    go true b c p q r h = as-plain (eqb-true f plainFormat p)
+    go false true c p q r h = as-reference (eqb-true f referenceFormat q)
+    go false false true p q r h = as-wrapped (eqb-true f wrappedFormat r)
+    go false false false p q r h = absurd (false≢true (sym h))
+
+-- all but the plain one need a row
+pub known-needs : (f : ℕ) → Known f → (f ≡ plainFormat → ⊥) → needsRow f ≡ true
+known-needs f (as-plain e) n = absurd (n e)
+known-needs f (as-reference e) n = ap needsRow e
+known-needs f (as-wrapped e) n = ap needsRow e
+
+-- ---- the KEK type
+
+kek-type : (k : ℕ) → (eqb k 1 || eqb k 2) ≡ true → (1 ≤ k) × (k ≤ 2)
+kek-type k e = go (eqb k 1) (eqb k 2) refl refl e
+  where
+    go : (a b : Bool) → eqb k 1 ≡ a → eqb k 2 ≡ b → (a || b) ≡ true → (1 ≤ k) × (k ≤ 2)
+    go true b p q h = let one = eqb-true k 1 p in (omega arith, omega arith)
+    go false true p q h = let two = eqb-true k 2 q in (omega arith, omega arith)
+    go false false p q h = absurd (false≢true h)
+
+type-kek : (k : ℕ) → 1 ≤ k → k ≤ 2 → (eqb k 1 || eqb k 2) ≡ true
+type-kek k low high = go (eqb k 1) (eqb k 2) refl refl
+  where
+    go : (a b : Bool) → eqb k 1 ≡ a → eqb k 2 ≡ b → (a || b) ≡ true
+    go true b p q = refl
+    go false true p q = refl
+    go false false p q = absurd (eqb-false k 2 q (omega (arith, eqb-false k 1 p)))
+
+-- ---- each format's tests, both ways
+
+-- no test of a part applies
+pub record PartPassed (f : ℕ) (s : List ℕ) : Type 0 where
+  pub whole : partBroken f s ≡ false
+  pub permitted : partRefused f s ≡ false
+  pub short : partLong f s ≡ false
+
+module _ (s : List ℕ) where
+  pub plain-size : PartPassed plainFormat s → length s ≡ keySize
+  unfolding partBroken
+  plain-size h = isNot-false keySize s (h .whole)
+
+  laid-plain : length s ≡ keySize → PartPassed plainFormat s
+  unfolding partBroken partRefused partLong
+  laid-plain size = record { whole = isNot-right keySize s size; permitted = refl; short = refl }
+
+  reference-laid : PartPassed referenceFormat s → PartLaid referenceFormat s
+  unfolding partBroken partLong
+  reference-laid h = reference refl (ltb-false (length s) referenceMin (h .whole)) (ltb-false nameMax (length s) (h .short))
+
+  laid-reference : referenceMin ≤ length s → length s ≤ nameMax → PartPassed referenceFormat s
+  unfolding partBroken partRefused partLong
+  laid-reference least most =
+      record { whole = le-ltb (length s) referenceMin least; permitted = refl; short = le-ltb nameMax (length s) most }
+
+  wrapped-laid : PartPassed wrappedFormat s → PartLaid wrappedFormat s
+  unfolding partBroken partRefused partLong
+  wrapped-laid h =
+      let tests = not-false (every (wrappedTests s)) (h .whole) in
+      let kind = kek-type (kekType s) (not-false (eqb (kekType s) 1 || eqb (kekType s) 2) (h .permitted)) in
+      wrapped refl (kind .0) (kind .1)
+      (leb-true 1 (identifierSize s) (every-at (wrappedTests s) 1 tests))
+      (ltb-false nameMax (identifierSize s) (h .short))
+      (leb-true (identifierAt + identifierSize s) (length s) (every-at (wrappedTests s) 2 tests))
+
+  laid-wrapped : 1 ≤ kekType s → kekType s ≤ 2 → 1 ≤ identifierSize s → identifierSize s ≤ nameMax → identifierAt + identifierSize s ≤ length s
+      → PartPassed wrappedFormat s
+  unfolding partBroken partRefused partLong
+  laid-wrapped low high there most within =
+      record {
+        whole = rw (le-leb identifierAt (length s) (omega arith), le-leb 1 (identifierSize s) there, le-leb (identifierAt + identifierSize s) (length s) within);
+        permitted = ap not (type-kek (kekType s) low high);
+        short = le-ltb nameMax (identifierSize s) most;
+      }
+
+-- ---- and of any format
+
+pub part-laid : (f : ℕ) (s : List ℕ) → PartPassed f s → PartLaid f s
+part-laid f s h = go (known f s (h .permitted))
+  where
+    go : Known f → PartLaid f s
+    go (as-plain e) = plain e (plain-size s (rw e at h))
+    go (as-reference e) = rw e (reference-laid s (rw e at h))
+    go (as-wrapped e) = rw e (wrapped-laid s (rw e at h))
+
+pub laid-part : (f : ℕ) (s : List ℕ) → PartLaid f s → PartPassed f s
+laid-part f s (plain e size) = rw e (laid-plain s size)
+laid-part f s (reference e least most) = rw e (laid-reference s least most)
+laid-part f s (wrapped e low high there most within) = rw e (laid-wrapped s low high there most within)

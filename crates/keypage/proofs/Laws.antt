@@ -1,0 +1,136 @@
+-- The laws of specs/Laws.antt.
+-- Assumes nothing.
+use mathlib.Core.Path.{_≡_, refl, sym, ap, _∙_}
+use mathlib.Core.Logic.{_↔_}
+use mathlib.Core.List.{List}
+use mathlib.Core.Option.{some}
+use Prim.Native.Nat.{ℕ, _+_}
+use lib.ListN.{length}
+use Rattle.octets.specs.Bytes.{Bytes}
+use Rattle.octets.specs.Lent.{over, answer}
+use Rattle.octets.proofs.Bytes.{bytes-take, bytes-drop}
+use Rattle.octets.proofs.Lent.{one-answer}
+use Rattle.keytable.specs.Row.{keySize, useOf, keyOf}
+use Rattle.keytable.specs.Table.{rowFor}
+use Rattle.keytable.proofs.Laws.{rowFor-good}
+use Rattle.keywrap.specs.Calls.{wrappedSize, unwrapAnswer}
+use Rattle.keywrap.specs.Laws.{WrapsTo, UnwrapsTo}
+use Rattle.keywrap.proofs.Laws.{unwraps-exactly, wrapped-length}
+use Rattle.keypage.specs.Page.{keyAt, algorithmIn, formatIn, keyLength, keyPart, fieldsOf}
+use Rattle.keypage.specs.KeyPart.{plainFormat, referenceFormat, wrappedFormat, kekUse, identifierAt, identifierSize, identifierOf, wrappedOf}
+use Rattle.keypage.specs.Read.{readAnswer}
+use Rattle.keypage.specs.Load.{keyIn, keyLoaded}
+use Rattle.keypage.specs.Laws.{Readable, ReadsExactly, Loads, LoadsPlain, LoadsReference, LoadsWrapped, NoRowSix, LoadOtherRows, ReadUnique, LoadUnique}
+use Rattle.keypage.proofs.Permitted.{read-passed, passed-read, passed-readable, readable-passed, read-done, read-zero, read-part}
+use Rattle.keypage.proofs.Laid.{known, known-needs, plain-size}
+use Rattle.keypage.proofs.Loaded.{partNumber, part-row, part-none, part-use, reference-passed, wrapped-size, wrapped-answer, load-six, load-told, load-written, load-key, key-loads}
+use Rattle.keytable.proofs.RowFound.{row-key-bytes}
+use Rattle.octets.proofs.Lent.{answer-done, answer-zero}
+
+-- ---- reading
+
+pub reads-exactly : ReadsExactly
+reads-exactly p fields after = (to, from)
+  where
+    to : readAnswer p fields ≡ (0, after) → Readable p × (after ≡ fieldsOf p)
+    to e =
+        let zero = read-zero p fields after e in
+        (passed-readable p (read-passed p zero), ap (λ (x : ℕ × List ℕ). x .1) (sym e ∙ read-done p fields zero))
+
+    from : Readable p × (after ≡ fieldsOf p) → readAnswer p fields ≡ (0, after)
+    from h = read-done p fields (passed-read p (readable-passed p (h .0))) ∙ ap (λ (l : List ℕ). (0, l)) (sym (h .1))
+
+-- ---- loading
+
+pub loads-plain : LoadsPlain
+unfolding keyLoaded
+loads-plain t p out fields given is =
+    let size = plain-size (keyPart p) (rw is at (read-part p (given .readable))) in
+    key-loads t p out fields given plainFormat is (keyPart p) refl size refl
+
+pub loads-reference : LoadsReference
+unfolding keyLoaded
+loads-reference t p out fields k given is = (to, from)
+  where
+    Row : Type 0
+    Row = (row : List ℕ) × (rowFor t (keyPart p) ≡ some row) × (useOf row ≡ algorithmIn p) × (keyOf row ≡ k)
+
+    to : Loads t p out fields k → Row
+    to h =
+        let zero = load-told t p out fields given referenceFormat is k h in
+        let (row, has) = part-row (rowFor t (keyPart p)) (algorithmIn p) referenceFormat (keyPart p) refl zero in
+        let size : length (keyIn (rowFor t (keyPart p))) ≡ keySize = rw has (rowFor-good t (keyPart p) row (given .accepted) has .key-size) in (
+          row,
+          has,
+          part-use row (algorithmIn p) referenceFormat (keyPart p) refl (rw has at zero),
+          ap keyIn (sym has) ∙ load-key t p out fields given referenceFormat is k size h,
+        )
+
+    from : Row → Loads t p out fields k
+    from (row, has, use-is, key-is) =
+        key-loads t p out fields given referenceFormat is k (rw has (reference-passed row (algorithmIn p) (keyPart p) use-is))
+        (sym (ap length key-is) ∙ rowFor-good t (keyPart p) row (given .accepted) has .key-size)
+        (ap (λ (l : List ℕ). over l out) (ap keyIn has ∙ key-is))
+
+pub loads-wrapped : LoadsWrapped
+loads-wrapped t p out fields k given bytes-t bytes-p is = (to, from)
+  where
+    name : List ℕ
+    name = identifierOf (keyPart p)
+
+    w : List ℕ
+    w = wrappedOf (keyPart p)
+
+    bytes-w : Bytes w
+    bytes-w = bytes-drop (identifierAt + identifierSize (keyPart p)) (bytes-take (keyLength p) (bytes-drop keyAt bytes-p))
+
+    -- unwrapping by the key of a row found
+    exactly : (row : List ℕ) → rowFor t name ≡ some row → length w ≡ wrappedSize → UnwrapsTo (keyOf row) w out k ↔ WrapsTo (keyOf row) k w
+    exactly row has size =
+        unwraps-exactly (keyOf row) w out k (rowFor-good t name row (given .accepted) has .key-size) (row-key-bytes t name row bytes-t has)
+        size bytes-w (given .room)
+
+    Row : Type 0
+    Row = (row : List ℕ) × (rowFor t name ≡ some row) × (useOf row ≡ kekUse) × WrapsTo (keyOf row) k w
+
+    as-unwrapped : (row : List ℕ) → rowFor t name ≡ some row → useOf row ≡ kekUse
+        → answer (partNumber (some row) (algorithmIn p) wrappedFormat (keyPart p)) (keyLoaded (some row) wrappedFormat (keyPart p)) out
+        ≡ unwrapAnswer (keyOf row) w out
+    as-unwrapped row has use-is =
+        wrapped-answer row (algorithmIn p) (keyPart p) out use-is (rowFor-good t name row (given .accepted) has .key-size) (given .room)
+
+    to : Loads t p out fields k → Row
+    to h =
+        let zero = load-told t p out fields given wrappedFormat is k h in
+        let (row, has) = part-row (rowFor t name) (algorithmIn p) wrappedFormat (keyPart p) refl zero in
+        let passed : partNumber (some row) (algorithmIn p) wrappedFormat (keyPart p) ≡ 0 = rw has at zero in
+        let use-is = part-use row (algorithmIn p) wrappedFormat (keyPart p) refl passed in
+        let written : over (keyLoaded (some row) wrappedFormat (keyPart p)) out ≡ over k out =
+        rw has at (load-written t p out fields given wrappedFormat is k h) in
+        let answers : unwrapAnswer (keyOf row) w out ≡ (0, over k out) =
+        sym (as-unwrapped row has use-is) ∙ answer-done _ _ out passed ∙ ap (λ (l : List ℕ). (0, l)) written in
+        (row, has, use-is, exactly row has (wrapped-size row (algorithmIn p) (keyPart p) passed) .0 (record { size = h .size; answers = answers }))
+
+    from : Row → Loads t p out fields k
+    from (row, has, use-is, wraps) =
+        let size : length w ≡ wrappedSize = sym (ap length (wraps .wraps)) ∙ wrapped-length (keyOf row) k in
+        let told = answer-zero _ _ out (over k out) (as-unwrapped row has use-is ∙ exactly row has size .1 wraps .answers) in
+        key-loads t p out fields given wrappedFormat is k (rw has (told .0)) (wraps .size) (rw has (told .1))
+
+pub no-row-six : NoRowSix
+no-row-six t p out fields given other nothing =
+    let needs = known-needs (formatIn p) (known (formatIn p) (keyPart p) (read-part p (given .readable) .permitted)) other in
+    load-six t p out fields given (formatIn p) refl (rw nothing (part-none (algorithmIn p) (formatIn p) (keyPart p) needs))
+
+-- ---- other rows
+
+pub load-other-rows : LoadOtherRows
+load-other-rows t u p out fields ok-t ok-u e = rw (ok-t, ok-u, e)
+
+-- ---- one answer
+
+pub read-unique : ReadUnique
+read-unique p fields a b = one-answer
+
+pub load-unique : LoadUnique
+load-unique t p out fields a b = one-answer

@@ -1,0 +1,103 @@
+-- What 0 of loading tells, for an accepted table, a page that reading accepts and room: no test of the KEY part applied; and the other way.
+-- Assumes nothing.
+use mathlib.Core.Path.{_≡_, refl, sym, ap, _∙_}
+use mathlib.Core.Bool.{Bool, true, _&&_, not, false≢true}
+use mathlib.Core.List.{List}
+use mathlib.Core.Option.{Option, some, none}
+use Prim.Native.Nat.{ℕ, _≤_}
+use native.Mathlib.Omega.{arith}
+use borrow.Author.Tests.{eqb-true, eq-eqb, le-ltb, not-false}
+use lib.Dec.{eqb}
+use lib.ListN.{length}
+use Rattle.octets.specs.Lent.{lowest, over, answer}
+use Rattle.octets.proofs.Lent.{isNot-false, isNot-right}
+use Rattle.keytable.specs.Row.{keySize, useOf, keyOf}
+use Rattle.keytable.specs.Table.{tableOk, rowFor}
+use Rattle.keywrap.specs.Calls.{wrappedSize, unwrapNumber, unwrapAnswer}
+use Rattle.keypage.specs.Page.{algorithmIn, formatIn, keyPart, fieldsOf}
+use Rattle.keypage.specs.KeyPart.{referenceFormat, wrappedFormat, kekUse, wrappedOf, needsRow, useFor, nameFor}
+use Rattle.keypage.specs.Load.{partTests, keyLoaded, loadNumber, loadRow, loadAnswer}
+use Rattle.keypage.specs.Laws.{Given, Loads}
+use Rattle.octets.proofs.Lent.{none-applies, over-injective}
+use Rattle.keypage.proofs.Permitted.{ReadPassed, read-passed}
+
+-- ---- the KEY part's own tests, 6 to 9
+
+abbrev pub partNumber : Option (List ℕ) → ℕ → ℕ → List ℕ → ℕ
+partNumber row algorithm f s = lowest (partTests row algorithm f s)
+
+-- where a row is needed, 0 tells that there is one
+pub part-row : (o : Option (List ℕ)) (algorithm f : ℕ) (s : List ℕ) → needsRow f ≡ true → partNumber o algorithm f s ≡ 0 → (row : List ℕ) × (o ≡ some row)
+part-row none algorithm f s needs e =
+    absurd (false≢true (sym (none-applies (partTests none algorithm f s) 0 refl e) ∙ rw needs))
+part-row (some row) algorithm f s needs e = (row, refl)
+
+pub part-none : (algorithm f : ℕ) (s : List ℕ) → needsRow f ≡ true → partNumber none algorithm f s ≡ 6
+part-none algorithm f s needs = rw needs
+
+-- and that its use is the one needed
+pub part-use : (row : List ℕ) (algorithm f : ℕ) (s : List ℕ) → needsRow f ≡ true → partNumber (some row) algorithm f s ≡ 0 → useOf row ≡ useFor f algorithm
+part-use row algorithm f s needs e =
+    let same = eqb (useOf row) (useFor f algorithm) in
+    let tested = none-applies (partTests (some row) algorithm f s) 1 refl e in
+    eqb-true (useOf row) (useFor f algorithm) (not-false same (sym (ap (λ (b : Bool). b && not same) needs) ∙ tested))
+
+module _ (row : List ℕ) (algorithm : ℕ) (s : List ℕ) where
+  -- of a reference nothing else is tested
+  pub reference-passed : useOf row ≡ algorithm → partNumber (some row) algorithm referenceFormat s ≡ 0
+  reference-passed e = rw (eq-eqb (useOf row) algorithm e)
+
+  pub wrapped-size : partNumber (some row) algorithm wrappedFormat s ≡ 0 → length (wrappedOf s) ≡ wrappedSize
+  wrapped-size e = isNot-false wrappedSize (wrappedOf s) (none-applies (partTests (some row) algorithm wrappedFormat s) 2 refl e)
+
+  -- a wrapped part with the row of a KEK is answered as unwrapping by that KEK is
+  pub wrapped-answer : (out : List ℕ) → useOf row ≡ kekUse → length (keyOf row) ≡ keySize → keySize ≤ length out
+      → answer (partNumber (some row) algorithm wrappedFormat s) (keyLoaded (some row) wrappedFormat s) out ≡ unwrapAnswer (keyOf row) (wrappedOf s) out
+  unfolding keyLoaded unwrapAnswer unwrapNumber
+  wrapped-answer out use-is size room =
+      rw (eq-eqb (useOf row) kekUse use-is, isNot-right keySize (keyOf row) size, le-ltb (length out) keySize room)
+
+-- ---- the whole call, by a format, the row found for it and the key it then gives
+
+abbrev pub foundIn : List ℕ → List ℕ → ℕ → Option (List ℕ)
+foundIn t p f = rowFor t (nameFor f (keyPart p))
+
+abbrev pub numberIn : List ℕ → List ℕ → ℕ → ℕ
+numberIn t p f = partNumber (foundIn t p f) (algorithmIn p) f (keyPart p)
+
+abbrev pub keyGiven : List ℕ → List ℕ → ℕ → List ℕ
+keyGiven t p f = keyLoaded (foundIn t p f) f (keyPart p)
+
+load-number : (ok : Bool) (row : Option (List ℕ)) (p : List ℕ) (room : ℕ) → ok ≡ true → ReadPassed p → keySize ≤ room
+    → loadNumber ok row p room ≡ partNumber row (algorithmIn p) (formatIn p) (keyPart p)
+unfolding loadNumber
+load-number ok row p room accepted passed fits = rw (accepted, passed .whole, passed .permitted, passed .short, le-ltb room keySize fits)
+
+module _ (t p out fields : List ℕ) (given : Given t p out) where
+  left : loadNumber (tableOk t) (foundIn t p (formatIn p)) p (length out) ≡ numberIn t p (formatIn p)
+  left = load-number (tableOk t) (foundIn t p (formatIn p)) p (length out) (given .accepted) (read-passed p (given .readable)) (given .room)
+
+  module _ (f : ℕ) (is : formatIn p ≡ f) where
+    pub load-zero : numberIn t p f ≡ 0 → loadAnswer t p out fields ≡ ((0, over (keyGiven t p f) out), fieldsOf p)
+    unfolding loadRow
+    load-zero e = rw (left ∙ ap (numberIn t p) is ∙ e) (ap (λ (g : ℕ). ((0, over (keyGiven t p g) out), fieldsOf p)) is)
+
+    pub load-six : numberIn t p f ≡ 6 → loadAnswer t p out fields ≡ ((6, out), fields)
+    unfolding loadRow
+    load-six e = rw (left ∙ ap (numberIn t p) is ∙ e)
+
+    pub load-told : (k : List ℕ) → Loads t p out fields k → numberIn t p f ≡ 0
+    unfolding loadRow
+    load-told k h = sym (left ∙ ap (numberIn t p) is) ∙ ap (λ (x : (ℕ × List ℕ) × List ℕ). x .0 .0) (h .answers)
+
+    -- and what was written is k
+    pub load-written : (k : List ℕ) → Loads t p out fields k → over (keyGiven t p f) out ≡ over k out
+    load-written k h = ap (λ (x : (ℕ × List ℕ) × List ℕ). x .0 .1) (sym (load-zero (load-told k h)) ∙ h .answers)
+
+    pub load-key : (k : List ℕ) → length (keyGiven t p f) ≡ keySize → Loads t p out fields k → keyGiven t p f ≡ k
+    load-key k size h =
+        over-injective (keyGiven t p f) k out (size ∙ sym (h .size)) (omega (arith, h .size, given .room)) (load-written k h)
+
+    pub key-loads : (k : List ℕ) → numberIn t p f ≡ 0 → length k ≡ keySize → over (keyGiven t p f) out ≡ over k out → Loads t p out fields k
+    key-loads k e size same =
+        record { size = size; answers = load-zero e ∙ ap (λ (l : List ℕ). ((0, l), fieldsOf p)) same }

@@ -1,0 +1,106 @@
+-- What key pages promise, as statements; proofs/Laws.antt proves each.
+-- Assumes nothing.
+use mathlib.Core.Path.{_≡_}
+use mathlib.Core.Logic.{_↔_}
+use mathlib.Core.Bool.{true, false}
+use mathlib.Core.List.{List, [], _∷_, _++_}
+use mathlib.Core.Option.{some, none}
+use Prim.Native.Nat.{ℕ, _+_, _≤_}
+use lib.ListN.{length, take, drop}
+use Rattle.octets.specs.Bytes.{Bytes}
+use Rattle.octets.specs.Lent.{over}
+use Rattle.octets.specs.Tests.{zeros, partOf}
+use Rattle.octets.specs.BigEndian.{numberAt}
+use Rattle.keytable.specs.Row.{keySize, nameMax, useOf, keyOf}
+use Rattle.keytable.specs.Table.{tableOk, rowFor}
+use Rattle.keywrap.specs.Calls.{wrappedSize}
+use Rattle.keywrap.specs.Laws.{WrapsTo}
+use Rattle.descriptors.specs.Laws.{Accepted}
+use Rattle.keypage.specs.Page.{pageCode, pageMax, keyAt, scopeIn, reservedIn, encryptionIn, decryptionIn, algorithmIn, formatIn, keyLength, keyPart, listIn, fieldsOf}
+use Rattle.keypage.specs.KeyPart.{plainFormat, referenceFormat, wrappedFormat, referenceMin, kekType, kekUse, identifierSize, identifierOf, wrappedOf, identifierAt, nameFor}
+use Rattle.keypage.specs.Read.{readNumber, readAnswer}
+use Rattle.keypage.specs.Load.{loadAnswer}
+
+-- ---- reading accepts exactly the pages of the layout with permitted values
+
+-- the page's own layout and fields, with n unreserved descriptors
+pub record Laid (p : List ℕ) (n : ℕ) : Type 0 where
+  pub code : numberAt 2 p 0 ≡ pageCode
+  pub total : length p ≡ numberAt 2 p 2 + 4
+  pub reserved-bits : reservedIn p ≡ 0
+  pub reserved-bytes : zeros (partOf p 10 8) ≡ true
+  pub key-within : keyAt + keyLength p ≤ length p
+  pub list : Accepted false false (listIn p) n
+  pub scope : scopeIn p ≤ 2
+  pub encryption : encryptionIn p ≤ 2
+  pub decryption : decryptionIn p ≤ 3
+  pub algorithm-low : 1 ≤ algorithmIn p
+  pub algorithm-high : algorithmIn p ≤ 2
+  pub short : length p ≤ pageMax
+
+-- the KEY part of each format
+pub data PartLaid (f : ℕ) (s : List ℕ) : Type 0 where
+  plain : f ≡ plainFormat → length s ≡ keySize → PartLaid f s
+  reference : f ≡ referenceFormat → referenceMin ≤ length s → length s ≤ nameMax → PartLaid f s
+  wrapped : f ≡ wrappedFormat → 1 ≤ kekType s → kekType s ≤ 2 → 1 ≤ identifierSize s → identifierSize s ≤ nameMax
+      → identifierAt + identifierSize s ≤ length s → PartLaid f s
+
+pub record Readable (p : List ℕ) : Type 0 where
+  pub count : ℕ
+  pub laid : Laid p count
+  pub part : PartLaid (formatIn p) (keyPart p)
+
+abbrev pub ReadsExactly : Type 0
+ReadsExactly = (p fields after : List ℕ) → (readAnswer p fields ≡ (0, after)) ↔ (Readable p × (after ≡ fieldsOf p))
+
+-- ---- loading, for an accepted table, a page that reading accepts, and room
+
+pub record Given (t p out : List ℕ) : Type 0 where
+  pub accepted : tableOk t ≡ true
+  pub readable : readNumber p ≡ 0
+  pub room : keySize ≤ length out
+
+-- the load gives k: 0, k is the 32 bytes that the output then begins with, and the page's fields
+pub record Loads (t p out fields k : List ℕ) : Type 0 where
+  pub size : length k ≡ keySize
+  pub answers : loadAnswer t p out fields ≡ ((0, over k out), fieldsOf p)
+
+-- a 00h page gives its key, whatever the table
+abbrev pub LoadsPlain : Type 0
+LoadsPlain = (t p out fields : List ℕ) → Given t p out → formatIn p ≡ plainFormat → Loads t p out fields (keyPart p)
+
+-- a 01h page gives the key of the row of that whole name, whose use is the algorithm index
+abbrev pub LoadsReference : Type 0
+LoadsReference =
+    (t p out fields k : List ℕ) → Given t p out → formatIn p ≡ referenceFormat
+    → Loads t p out fields k ↔ ((row : List ℕ) × (rowFor t (keyPart p) ≡ some row) × (useOf row ≡ algorithmIn p) × (keyOf row ≡ k))
+
+-- a 04h page gives k exactly when there is a KEK's row of that whole identifier and wrapping k by it gives the 40 bytes
+abbrev pub LoadsWrapped : Type 0
+LoadsWrapped =
+    (t p out fields k : List ℕ) → Given t p out → Bytes t → Bytes p → formatIn p ≡ wrappedFormat
+    → Loads t p out fields k
+    ↔ ((row : List ℕ) × (rowFor t (identifierOf (keyPart p)) ≡ some row) × (useOf row ≡ kekUse) × WrapsTo (keyOf row) k (wrappedOf (keyPart p)))
+
+-- "Where no row answers, the load stops there with 6."
+abbrev pub NoRowSix : Type 0
+NoRowSix =
+    (t p out fields : List ℕ) → Given t p out → (formatIn p ≡ plainFormat → ⊥) → rowFor t (nameFor (formatIn p) (keyPart p)) ≡ none
+    → loadAnswer t p out fields ≡ ((6, out), fields)
+
+-- ---- other rows change nothing
+
+abbrev pub LoadOtherRows : Type 0
+LoadOtherRows =
+    (t u p out fields : List ℕ) → tableOk t ≡ true → tableOk u ≡ true
+    → rowFor t (nameFor (formatIn p) (keyPart p)) ≡ rowFor u (nameFor (formatIn p) (keyPart p))
+    → loadAnswer t p out fields ≡ loadAnswer u p out fields
+
+-- ---- for each input one answer, and one state of what is lent
+
+abbrev pub ReadUnique : Type 0
+ReadUnique = (p fields : List ℕ) (a b : ℕ × List ℕ) → readAnswer p fields ≡ a → readAnswer p fields ≡ b → a ≡ b
+
+abbrev pub LoadUnique : Type 0
+LoadUnique =
+    (t p out fields : List ℕ) (a b : (ℕ × List ℕ) × List ℕ) → loadAnswer t p out fields ≡ a → loadAnswer t p out fields ≡ b → a ≡ b

@@ -1,0 +1,57 @@
+-- Loading a key (document 01, "Key page"): "A load writes the key into the first 32 bytes lent for it and answers the page's fields."
+-- Assumes nothing.
+use Prim.Native.Nat.{ℕ}
+use mathlib.Core.Bool.{Bool, false, not, _&&_}
+use mathlib.Core.List.{List, [], _∷_}
+use mathlib.Core.Option.{Option, some, none}
+use lib.ListN.{length}
+use lib.Dec.{eqb, ltb}
+use Rattle.octets.specs.Lent.{when, isNot, lowest, answer}
+use Rattle.keytable.specs.Row.{keySize, keyOf}
+use Rattle.keytable.specs.Table.{tableOk, rowFor}
+use Rattle.keytable.specs.Calls.{missing, useIn}
+use Rattle.keywrap.specs.Wrap as wrap
+use Rattle.keywrap.specs.Calls.{wrappedSize}
+use Rattle.keypage.specs.Page.{algorithmIn, formatIn, keyPart, fieldsOf}
+use Rattle.keypage.specs.KeyPart.{byFormat, wrappedOf, needsRow, useFor, nameFor}
+use Rattle.keypage.specs.Read.{broken, refused, long}
+
+-- the key of the row that matched
+abbrev pub keyIn : Option (List ℕ) → List ℕ
+keyIn none = []
+keyIn (some row) = keyOf row
+
+-- 6 to 9, by the row that matched, the page's algorithm index, and the format and bytes of its KEY part
+abbrev pub partTests : Option (List ℕ) → ℕ → ℕ → List ℕ → List (ℕ × Bool)
+partTests row algorithm f s =
+    (6, needsRow f && missing row)
+    ∷ (7, needsRow f && not (eqb (useIn row) (useFor f algorithm)))
+    ∷ (8, byFormat f false false (isNot wrappedSize (wrappedOf s)) false)
+    ∷ (9, byFormat f false false (not (wrap.startRight (keyIn row) (wrappedOf s))) false)
+    ∷ []
+
+-- the key: the KEY part itself, the row's, or what the wrapped bytes hold
+unfoldable pub keyLoaded : Option (List ℕ) → ℕ → List ℕ → List ℕ
+keyLoaded row f s = byFormat f s (keyIn row) (wrap.keyOf (keyIn row) (wrappedOf s)) []
+
+abbrev pub loadTests : Bool → Option (List ℕ) → List ℕ → ℕ → List (ℕ × Bool)
+loadTests ok row p room =
+    (1, not ok)
+    ∷ (2, broken p)
+    ∷ (3, refused p)
+    ∷ (4, long p)
+    ∷ (5, ltb room keySize)
+    ∷ partTests row (algorithmIn p) (formatIn p) (keyPart p)
+
+unfoldable pub loadNumber : Bool → Option (List ℕ) → List ℕ → ℕ → ℕ
+loadNumber ok row p room = lowest (loadTests ok row p room)
+
+-- by whether the table is accepted and the row that matched; the fields are lent too, and changed by 0 alone
+unfoldable pub loadRow : Bool → Option (List ℕ) → List ℕ → List ℕ → List ℕ → (ℕ × List ℕ) × List ℕ
+loadRow ok row p out fields = (
+  answer (loadNumber ok row p (length out)) (keyLoaded row (formatIn p) (keyPart p)) out,
+  when (eqb (loadNumber ok row p (length out)) 0) (fieldsOf p) fields,
+)
+
+abbrev pub loadAnswer : List ℕ → List ℕ → List ℕ → List ℕ → (ℕ × List ℕ) × List ℕ
+loadAnswer t p out fields = loadRow (tableOk t) (rowFor t (nameFor (formatIn p) (keyPart p))) p out fields

@@ -1,0 +1,29 @@
+-- Reading a page by itself, without a table (document 01, "Numbers given back"): 2, 3 or 4, or its fields. It never gives 8.
+-- Assumes nothing.
+use Prim.Native.Nat.{ℕ}
+use mathlib.Core.Bool.{Bool, not, _||_}
+use mathlib.Core.List.{List, [], _∷_}
+use lib.ListN.{length}
+use lib.Dec.{eqb, ltb}
+use Rattle.octets.specs.Lent.{when, lowest}
+use Rattle.keypage.specs.Page.{pageMax, formatIn, keyPart, pageOk, fieldsOk, fieldsOf}
+use Rattle.keypage.specs.KeyPart.{partBroken, partRefused, partLong}
+
+abbrev pub broken : List ℕ → Bool
+broken p = not (pageOk p) || partBroken (formatIn p) (keyPart p)
+
+abbrev pub refused : List ℕ → Bool
+refused p = not (fieldsOk p) || partRefused (formatIn p) (keyPart p)
+
+abbrev pub long : List ℕ → Bool
+long p = ltb pageMax (length p) || partLong (formatIn p) (keyPart p)
+
+abbrev pub readTests : List ℕ → List (ℕ × Bool)
+readTests p = (2, broken p) ∷ (3, refused p) ∷ (4, long p) ∷ []
+
+unfoldable pub readNumber : List ℕ → ℕ
+readNumber p = lowest (readTests p)
+
+-- the fields are lent, and changed by 0 alone
+unfoldable pub readAnswer : List ℕ → List ℕ → ℕ × List ℕ
+readAnswer p fields = (readNumber p, when (eqb (readNumber p) 0) (fieldsOf p) fields)

@@ -1,0 +1,67 @@
+// The KEY part of a page, by its format: its own tests. Each is lent the part alone.
+use crate::sizes::IDENTIFIER_AT;
+use crate::sizes::KEY_SIZE;
+use crate::sizes::NAME_MAX;
+use crate::sizes::REFERENCE_MIN;
+use octets::big_endian::read16;
+ghost use mathlib.Core.Path.{_≡_};
+ghost use mathlib.Core.Bool.{not};
+ghost use Rattle.octets.specs.Tests.{every};
+ghost use Rattle.keypage.specs.KeyPart.{wrappedTests, partBroken, partRefused, partLong};
+
+// Whether the identifier of a 04h part is there and lies within it.
+fn identifier_ok(s: &[u8]) -> bool
+    ensures { λ r. ⌜ r ≡ every (wrappedTests (now (s .entry))) ⌝ }
+{
+    let n = read16(s, 2);
+    (IDENTIFIER_AT <= s.len()) & (1 <= n) & (IDENTIFIER_AT + n <= s.len())
+}
+
+// 2: the part breaks the layout of its format; one of another format is not looked at.
+pub(crate) fn part_broken(format: usize, s: &[u8]) -> bool
+    ensures { λ r. ⌜ r ≡ partBroken format (now (s .entry)) ⌝ }
+{
+    if format == 0 {
+        return s.len() != KEY_SIZE;
+    }
+    if format == 1 {
+        return s.len() < REFERENCE_MIN;
+    }
+    if format == 4 {
+        return !identifier_ok(s);
+    }
+    false
+}
+
+// 3: a KEK type that is not permitted, or an unknown format.
+pub(crate) fn part_refused(format: usize, s: &[u8]) -> bool
+    ensures { λ r. ⌜ r ≡ partRefused format (now (s .entry)) ⌝ }
+{
+    if format == 0 {
+        return false;
+    }
+    if format == 1 {
+        return false;
+    }
+    if format == 4 {
+        let kind = read16(s, 0);
+        return !((kind == 1) | (kind == 2));
+    }
+    true
+}
+
+// 4: a reference or an identifier of more than 32 bytes.
+pub(crate) fn part_long(format: usize, s: &[u8]) -> bool
+    ensures { λ r. ⌜ r ≡ partLong format (now (s .entry)) ⌝ }
+{
+    if format == 0 {
+        return false;
+    }
+    if format == 1 {
+        return NAME_MAX < s.len();
+    }
+    if format == 4 {
+        return NAME_MAX < read16(s, 2);
+    }
+    false
+}

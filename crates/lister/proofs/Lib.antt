@@ -1,0 +1,4 @@
+pub mod Decimal
+pub mod Listing
+pub mod Wrote
+pub mod Laws

@@ -1,0 +1,18 @@
+-- `lister::list_page` meets its contract: the text stands over the front of 256 zeros.
+-- Assumes nothing.
+use native.Mathlib.Omega.{arith}
+use borrow.Author.Needs.{needs}
+use Rattle.lister.specs.Listing.{listing}
+use Rattle.lister.proofs.Wrote.{wrote-front}
+use Rattle.lister.proofs.list_page.Statement.{statement}
+use Rattle.lister.proofs.list_page.Tie as tie
+use Rattle.lister.proofs.list_page.Reads as reads
+use Rattle.lister.proofs.list_page.Lts as lts
+
+returns : tie.Need-returns
+returns c =
+    let w = c .before .put-listing .ensures in
+    (wrote-front (listing (c .before .before .before .before .args .input .now)) w, omega (arith, w .fits, w .place))
+
+pub list-page-spec : {M : Type 1} → statement M
+list-page-spec = tie.close (tie.spec (λ c. search needs) (λ c κs. search needs) returns)

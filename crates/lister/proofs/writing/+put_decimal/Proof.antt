@@ -1,0 +1,166 @@
+-- `lister::writing::put_decimal` meets its contract. The measure is n, of which a tenth is less.
+-- Assumes nothing.
+use mathlib.Core.Path.{_≡_, ap, _∙_}
+use mathlib.Core.List.{[], _∷_}
+use Prim.Native.Nat.{ℕ, _+_, _/_, _%_, _≤_, _<_}
+use native.Mathlib.Omega.{arith}
+use borrow.Author.Needs.{needs}
+use lib.ListN.{length, length-append}
+use Rattle.lister.specs.Decimal.{digit, decimal}
+use Rattle.lister.proofs.Decimal.{decimal-small, decimal-more}
+use Rattle.lister.proofs.Wrote.{wrote-then}
+use borrow.Fn.Kinds.{In}
+use borrow.Fn.PlainCycle.{Measures, is, falls, and}
+use Rattle.lister.proofs.writing.put_decimal.Reads as put-decimal
+use Rattle.lister.proofs.writing.put_decimal.Kinds as put-decimal-kinds
+use Rattle.lister.proofs.writing.+put_decimal.Lts-put_decimal as put-decimal-lts
+use Rattle.lister.proofs.writing.put_byte.Reads as put-byte-reads
+use Rattle.lister.proofs.writing.+put_decimal.{statement}
+use Rattle.lister.proofs.writing.+put_decimal.Tie.{close}
+
+-- one digit more than a tenth has
+more-length : (n : ℕ) → 10 ≤ n → length (decimal n) ≡ length (decimal (n / 10)) + 1
+more-length n h = ap length (decimal-more n h) ∙ length-append (decimal (n / 10)) (digit (n % 10) ∷ [])
+
+abbrev μ-put-decimal : Measures 1 put-decimal-kinds.ps ℕ
+μ-put-decimal κs a = a .1 .1 .0
+
+abbrev put-decimal-at : ℕ → In 1 put-decimal-kinds.ps
+put-decimal-at t =
+    and 1 put-decimal-kinds.ps (is 1 put-decimal-kinds.ps μ-put-decimal t) put-decimal.Pre
+
+abbrev put-decimal-below : ℕ → In 1 put-decimal-kinds.ps
+put-decimal-below t =
+    and 1 put-decimal-kinds.ps (falls 1 put-decimal-kinds.ps _<_ μ-put-decimal t) put-decimal.Pre
+
+-- src/text.rt:31:39
+put-decimal-cast-put-byte : (t : ℕ) → put-decimal-lts.Need-cast-put-byte (
+  put-byte-reads.Asked,
+  put-byte-reads.Learnt,
+  put-decimal-below t,
+  put-decimal.Post,
+) (put-decimal-at t) put-decimal.Post
+put-decimal-cast-put-byte t c = search needs
+
+-- src/text.rt:31:34
+put-decimal-add-put-byte : (t : ℕ) → put-decimal-lts.Need-add-put-byte (
+  put-byte-reads.Asked,
+  put-byte-reads.Learnt,
+  put-decimal-below t,
+  put-decimal.Post,
+) (put-decimal-at t) put-decimal.Post
+put-decimal-add-put-byte t c = search needs
+
+-- src/text.rt:31:9
+put-decimal-put-byte-requires : (t : ℕ) → put-decimal-lts.Need-put-byte-requires (
+  put-byte-reads.Asked,
+  put-byte-reads.Learnt,
+  put-decimal-below t,
+  put-decimal.Post,
+) (put-decimal-at t) put-decimal.Post
+put-decimal-put-byte-requires t c κs =
+    let b = c .before .before .before in
+    omega (arith, b .pre .1, ap length (decimal-small (b .args .n) (c .before .if1 .taken)))
+
+-- src/text.rt:31:9
+put-decimal-same-length : (t : ℕ) → put-decimal-lts.Need-same-length (
+  put-byte-reads.Asked,
+  put-byte-reads.Learnt,
+  put-decimal-below t,
+  put-decimal.Post,
+) (put-decimal-at t) put-decimal.Post
+put-decimal-same-length t c = search needs
+
+-- src/text.rt:31:9
+put-decimal-returns : (t : ℕ) → put-decimal-lts.Need-returns (
+  put-byte-reads.Asked,
+  put-byte-reads.Learnt,
+  put-decimal-below t,
+  put-decimal.Post,
+) (put-decimal-at t) put-decimal.Post
+put-decimal-returns t c =
+    let b = c .before .before .before .before .before .before in
+    rw (decimal-small (b .args .n) (c .before .before .before .before .if1 .taken)) (c .before .before .put-byte .ensures)
+
+-- src/text.rt:33:9
+put-decimal-put-decimal-requires : (t : ℕ) → put-decimal-lts.Need-put-decimal-requires (
+  put-byte-reads.Asked,
+  put-byte-reads.Learnt,
+  put-decimal-below t,
+  put-decimal.Post,
+) (put-decimal-at t) put-decimal.Post
+put-decimal-put-decimal-requires t c κs =
+    let b = c .before .before .before in
+    (omega (arith, b .pre .0), omega (arith, b .pre .1, more-length (b .args .n) (c .before .if1 .left)))
+
+-- src/text.rt:34:30
+put-decimal-cast-put-byte-2 : (t : ℕ) → put-decimal-lts.Need-cast-put-byte-2 (
+  put-byte-reads.Asked,
+  put-byte-reads.Learnt,
+  put-decimal-below t,
+  put-decimal.Post,
+) (put-decimal-at t) put-decimal.Post
+put-decimal-cast-put-byte-2 t c = search needs
+
+-- src/text.rt:34:25
+put-decimal-add-put-byte-2 : (t : ℕ) → put-decimal-lts.Need-add-put-byte-2 (
+  put-byte-reads.Asked,
+  put-byte-reads.Learnt,
+  put-decimal-below t,
+  put-decimal.Post,
+) (put-decimal-at t) put-decimal.Post
+put-decimal-add-put-byte-2 t c = search needs
+
+-- src/text.rt:34:5
+put-decimal-put-byte-requires-2 : (t : ℕ) → put-decimal-lts.Need-put-byte-requires-2 (
+  put-byte-reads.Asked,
+  put-byte-reads.Learnt,
+  put-decimal-below t,
+  put-decimal.Post,
+) (put-decimal-at t) put-decimal.Post
+put-decimal-put-byte-requires-2 t c κs =
+    let b = c .before .before .before .before .before .before .before in
+    let d = c .before .before .before .put-decimal in
+    omega (arith, b .pre .1, d .ensures .place, d .kept .0, more-length (b .args .n) (c .before .before .before .before .before .if1 .left))
+
+-- src/text.rt:26:1
+put-decimal-same-length-2 : (t : ℕ) → put-decimal-lts.Need-same-length-2 (
+  put-byte-reads.Asked,
+  put-byte-reads.Learnt,
+  put-decimal-below t,
+  put-decimal.Post,
+) (put-decimal-at t) put-decimal.Post
+put-decimal-same-length-2 t c = search needs
+
+-- src/text.rt:26:1
+put-decimal-returns-2 : (t : ℕ) → put-decimal-lts.Need-returns-2 (
+  put-byte-reads.Asked,
+  put-byte-reads.Learnt,
+  put-decimal-below t,
+  put-decimal.Post,
+) (put-decimal-at t) put-decimal.Post
+put-decimal-returns-2 t c =
+    let b = c .before .before .before .before .before .before .before .before .before .before in
+    rw (decimal-more (b .args .n) (c .before .before .before .before .before .before .before .before .if1 .left))
+    (wrote-then (c .before .before .before .before .before .before .put-decimal .ensures) (c .before .before .put-byte2 .ensures))
+
+pub +put-decimal-spec : {M : Type 1} → statement M
++put-decimal-spec = close μ-put-decimal λ t. put-decimal-lts.spec (
+  put-byte-reads.Asked,
+  put-byte-reads.Learnt,
+  put-decimal-below t,
+  put-decimal.Post,
+)
+    (put-decimal-at t)
+    put-decimal.Post
+    (put-decimal-cast-put-byte t)
+    (put-decimal-add-put-byte t)
+    (put-decimal-put-byte-requires t)
+    (put-decimal-same-length t)
+    (put-decimal-returns t)
+    (put-decimal-put-decimal-requires t)
+    (put-decimal-cast-put-byte-2 t)
+    (put-decimal-add-put-byte-2 t)
+    (put-decimal-put-byte-requires-2 t)
+    (put-decimal-same-length-2 t)
+    (put-decimal-returns-2 t)

@@ -1,0 +1,54 @@
+-- `record::sealing::write` meets its contract: what the tests found is what `fill` requires, and the row's use and key are its own.
+-- Assumes nothing.
+use mathlib.Core.Path.{_≡_, sym, ap, ap₂, _∙_}
+use mathlib.Core.List.{List}
+use mathlib.Core.Option.{Option, some}
+use Prim.Native.Nat.{ℕ}
+use lib.ListN.{length}
+use borrow.Author.Needs.{needs}
+use Rattle.octets.specs.Lent.{over}
+use Rattle.keytable.specs.Table.{tableOk, rowFor, rowAt}
+use Rattle.keytable.proofs.Laws.{rowFor-good}
+use Rattle.record.specs.Seal.{recordOf, recordBy}
+use Rattle.record.proofs.Sealed.{Sealable}
+use Rattle.record.proofs.Ready.{ready-row, ready-able}
+use Rattle.record.proofs.sealing.write.Statement.{statement}
+use Rattle.record.proofs.sealing.write.Tie as tie
+
+abbrev start : tie.After-use-at → tie.Start
+start c = c .before .before .before .before .before .before .before
+
+able : (c : tie.After-use-at) → let a = start c .args in
+    Sealable (tableOk (a .table .now)) (rowAt (a .table .now) (a .at)) (a .name .now) (a .iv .now) (a .aad .now) (a .plain .now) (length (a .out .now))
+able c = ready-able _ _ _ _ _ _ _ _ (start c .pre)
+
+found : (c : tie.After-use-at) → let a = start c .args in rowFor (a .table .now) (a .name .now) ≡ some (rowAt (a .table .now) (a .at))
+found c = ready-row _ _ _ _ _ _ _ _ (start c .pre)
+
+fill-requires : tie.Need-fill-requires
+fill-requires c κs =
+    let at-key = c .before in
+    let at-use = at-key .before in
+    let a = start at-use .args in
+    let h = able at-use in
+    let use-is = at-use .use-at .ensures in (
+      ap length (at-key .key-at .ensures) ∙ rowFor-good (a .table .now) (a .name .now) _ (h .accepted) (found at-use) .key-size,
+      h .short,
+      rw use-is (h .iv-long),
+      h .little,
+      h .few,
+      rw use-is (h .fits),
+    )
+
+returns : tie.Need-returns
+returns c =
+    let done = c .before .before in
+    let at-key = done .before .before in
+    let at-use = at-key .before in
+    let a = start at-use .args in
+    done .fill .ensures
+    ∙ ap₂ (λ (u : ℕ) (key : List ℕ). over (recordOf u key (a .name .now) (a .iv .now) (a .aad .now) (a .plain .now)) (a .out .now)) (at-use .use-at .ensures) (at-key .key-at .ensures)
+    ∙ ap (λ (o : Option (List ℕ)). over (recordBy o (a .name .now) (a .iv .now) (a .aad .now) (a .plain .now)) (a .out .now)) (sym (found at-use))
+
+pub write-spec : {M : Type 1} → statement M
+write-spec = tie.close (tie.spec (λ c κs. search needs) (λ c κs. search needs) fill-requires (λ c. search needs) returns)

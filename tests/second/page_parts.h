@@ -1,0 +1,107 @@
+/*
+ * What the writer of lines on key pages uses: the rows that its pages name, pages and their parts, and the two calls as
+ * lines. Nothing is freed: the program is short.
+ */
+#ifndef PAGE_PARTS_H
+#define PAGE_PARTS_H
+
+#include "descriptors.h"
+#include "pages.h"
+#include "rows.h"
+
+/* The key-encrypting key's row, then one of each mode with a name long enough for a reference; and their table. */
+static struct row named[3];
+static struct bytes holders;
+
+static const unsigned formats[] = { PLAIN_KEY, REFERENCE, WRAPPED_KEY };
+
+/* To be called first: the seed, and the rows from it. */
+static inline void begin_pages(int argc, char **argv)
+{
+    begin(argc, argv);
+    named[0] = *kek;
+    for (unsigned mode = 1; mode <= 2; mode++)
+        named[mode] = (struct row){ some(mode == 1 ? 9 : 20), some(32), mode };
+    holders = table_of(named, 3);
+}
+
+static inline void reads(const char *about, struct bytes page)
+{
+    write_call(about, "page_read", &page, 1, NO_OUTPUT);
+}
+
+static inline void loads(const char *about, struct bytes table, struct bytes page, size_t room)
+{
+    struct bytes w[] = { table, page };
+    write_call(about, "page_load", w, 2, room);
+}
+
+static inline void both(const char *about, struct bytes page)
+{
+    reads(about, page);
+    loads(about, holders, page, 34);
+}
+
+/* A copy with a number at a place. */
+static inline struct bytes with(struct bytes b, size_t at, int count, uint64_t value)
+{
+    struct bytes c = joined(b, nothing);
+    if (at + (size_t)count > b.len)
+        fail("no such place", "with");
+    put(c.at + at, count, value);
+    return c;
+}
+
+/* The page, of four bytes or more, with the PAGE LENGTH of its length. */
+static inline struct bytes fitted(struct bytes page)
+{
+    return with(page, 2, 2, page.len - 4);
+}
+
+/* A page with these, and any permitted fields. */
+static inline struct bytes page_of(unsigned index, unsigned format, struct bytes key, struct bytes list)
+{
+    struct bytes head = room_for(PAGE_HEAD);
+    memset(head.at, 0, PAGE_HEAD);
+    head.at[1] = 0x10;
+    head.at[4] = (unsigned char)(byte() % 3 << 5 | byte() % 2), head.at[5] = byte();
+    head.at[6] = byte() % 3, head.at[7] = byte() % 4;
+    head.at[8] = (unsigned char)index, head.at[9] = (unsigned char)format;
+    put(head.at + 18, 2, key.len);
+    return fitted(joined(joined(head, key), list));
+}
+
+static inline struct bytes wrapped_by(const struct row *r)
+{
+    struct bytes key = some(32), wrapped = room_for(40);
+    must(key_wrap(1, r->key.at, key.at, wrapped.at), "wrap");
+    return wrapped;
+}
+
+static inline struct bytes wrapped_part(unsigned type, struct bytes identifier, struct bytes wrapped)
+{
+    struct bytes head = room_for(4);
+    put(head.at, 2, type), put(head.at + 2, 2, identifier.len);
+    return joined(joined(head, identifier), wrapped);
+}
+
+/* A KEY part by these rows that a load takes. */
+static inline struct bytes key_of(unsigned index, unsigned format)
+{
+    if (format == REFERENCE)
+        return named[index].name;
+    return format == WRAPPED_KEY ? wrapped_part(index, named[0].name, wrapped_by(&named[0])) : some(32);
+}
+
+static inline struct bytes list_with(unsigned descriptors)
+{
+    static const unsigned char types[] = { 0x01, 0x04, 0xc0 };
+    return list_of(types, descriptors, descriptors);
+}
+
+static inline struct bytes good(unsigned index, unsigned format, unsigned descriptors)
+{
+    return page_of(index, format, key_of(index, format), list_with(descriptors));
+}
+
+#endif
