@@ -1,6 +1,6 @@
 -- The laws of specs/Laws.antt.
 -- Assumes nothing.
-use mathlib.Core.Path.{_≡_, refl, sym, ap, _∙_}
+use mathlib.Core.Path.{refl, sym, ap, _∙_}
 use mathlib.Core.List.{List}
 use Prim.Native.Nat.{ℕ}
 use native.Mathlib.Omega.{arith}
@@ -13,7 +13,7 @@ use Rattle.descriptors.specs.Tested.{risesFrom, splitOk, unreserved}
 use Rattle.keypage.specs.Page.{pageOk, fieldsOk}
 use Rattle.keypage.specs.KeyPart.{partBroken, partRefused, partLong}
 use Rattle.keypage.specs.Read.{readNumber}
-use Rattle.lister.specs.Decimal.{digitsWithin, decimal}
+use Rattle.lister.specs.Decimal.{decimal}
 use Rattle.lister.specs.Listing.{fieldLines, listingNumber, listing, textMax}
 use Rattle.lister.specs.Laws.{DecimalReads, DecimalDigits, NoZeroBefore, LongRefused, EmptyRefused, ExampleListed, TextRoom, TextUnique}
 use Rattle.lister.proofs.Decimal.{within-reads, within-digits, within-first}

@@ -6,8 +6,6 @@ use Rattle.lister.specs.Listing.{listing}
 use Rattle.lister.proofs.Wrote.{wrote-front}
 use Rattle.lister.proofs.list_page.Statement.{statement}
 use Rattle.lister.proofs.list_page.Tie as tie
-use Rattle.lister.proofs.list_page.Reads as reads
-use Rattle.lister.proofs.list_page.Lts as lts
 
 returns : tie.Need-returns
 returns c =

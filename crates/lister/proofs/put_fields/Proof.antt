@@ -6,8 +6,6 @@ use Rattle.lister.specs.Lines.{line, algorithmWord, formatWord, keyLengt
 use Rattle.lister.proofs.Wrote.{wrote-then-four}
 use Rattle.lister.proofs.put_fields.Statement.{statement}
 use Rattle.lister.proofs.put_fields.Tie as tie
-use Rattle.lister.proofs.put_fields.Reads as reads
-use Rattle.lister.proofs.put_fields.Lts as lts
 
 returns : tie.Need-returns
 returns c =

@@ -5,8 +5,6 @@ use borrow.Author.Needs.{needs}
 use Rattle.lister.proofs.Listing.{listing-long, listing-refused, listing-fields}
 use Rattle.lister.proofs.put_listing.Statement.{statement}
 use Rattle.lister.proofs.put_listing.Tie as tie
-use Rattle.lister.proofs.put_listing.Reads as reads
-use Rattle.lister.proofs.put_listing.Lts as lts
 
 returns : tie.Need-returns
 returns c = rw (listing-long (c .before .before .before .before .before .before .before .before .args .input .now) (c .before .before .before .before .before .if1 .taken)) (c .before .before .put-line .ensures .0)

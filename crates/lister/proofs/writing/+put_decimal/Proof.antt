@@ -33,7 +33,6 @@ abbrev put-decimal-below : ℕ → In 1 put-decimal-kinds.ps
 put-decimal-below t =
     and 1 put-decimal-kinds.ps (falls 1 put-decimal-kinds.ps _<_ μ-put-decimal t) put-decimal.Pre
 
--- src/text.rt:31:39
 put-decimal-cast-put-byte : (t : ℕ) → put-decimal-lts.Need-cast-put-byte (
   put-byte-reads.Asked,
   put-byte-reads.Learnt,
@@ -42,7 +41,6 @@ put-decimal-cast-put-byte : (t : ℕ) → put-decimal-lts.Need-cast-put-byte (
 ) (put-decimal-at t) put-decimal.Post
 put-decimal-cast-put-byte t c = search needs
 
--- src/text.rt:31:34
 put-decimal-add-put-byte : (t : ℕ) → put-decimal-lts.Need-add-put-byte (
   put-byte-reads.Asked,
   put-byte-reads.Learnt,
@@ -51,7 +49,6 @@ put-decimal-add-put-byte : (t : ℕ) → put-decimal-lts.Need-add-put-byte (
 ) (put-decimal-at t) put-decimal.Post
 put-decimal-add-put-byte t c = search needs
 
--- src/text.rt:31:9
 put-decimal-put-byte-requires : (t : ℕ) → put-decimal-lts.Need-put-byte-requires (
   put-byte-reads.Asked,
   put-byte-reads.Learnt,
@@ -62,7 +59,6 @@ put-decimal-put-byte-requires t c κs =
     let b = c .before .before .before in
     omega (arith, b .pre .1, ap length (decimal-small (b .args .n) (c .before .if1 .taken)))
 
--- src/text.rt:31:9
 put-decimal-same-length : (t : ℕ) → put-decimal-lts.Need-same-length (
   put-byte-reads.Asked,
   put-byte-reads.Learnt,
@@ -71,7 +67,6 @@ put-decimal-same-length : (t : ℕ) → put-decimal-lts.Need-same-length (
 ) (put-decimal-at t) put-decimal.Post
 put-decimal-same-length t c = search needs
 
--- src/text.rt:31:9
 put-decimal-returns : (t : ℕ) → put-decimal-lts.Need-returns (
   put-byte-reads.Asked,
   put-byte-reads.Learnt,
@@ -82,7 +77,6 @@ put-decimal-returns t c =
     let b = c .before .before .before .before .before .before in
     rw (decimal-small (b .args .n) (c .before .before .before .before .if1 .taken)) (c .before .before .put-byte .ensures)
 
--- src/text.rt:33:9
 put-decimal-put-decimal-requires : (t : ℕ) → put-decimal-lts.Need-put-decimal-requires (
   put-byte-reads.Asked,
   put-byte-reads.Learnt,
@@ -93,7 +87,6 @@ put-decimal-put-decimal-requires t c κs =
     let b = c .before .before .before in
     (omega (arith, b .pre .0), omega (arith, b .pre .1, more-length (b .args .n) (c .before .if1 .left)))
 
--- src/text.rt:34:30
 put-decimal-cast-put-byte-2 : (t : ℕ) → put-decimal-lts.Need-cast-put-byte-2 (
   put-byte-reads.Asked,
   put-byte-reads.Learnt,
@@ -102,7 +95,6 @@ put-decimal-cast-put-byte-2 : (t : ℕ) → put-decimal-lts.Need-cast-put-byte-2
 ) (put-decimal-at t) put-decimal.Post
 put-decimal-cast-put-byte-2 t c = search needs
 
--- src/text.rt:34:25
 put-decimal-add-put-byte-2 : (t : ℕ) → put-decimal-lts.Need-add-put-byte-2 (
   put-byte-reads.Asked,
   put-byte-reads.Learnt,
@@ -111,7 +103,6 @@ put-decimal-add-put-byte-2 : (t : ℕ) → put-decimal-lts.Need-add-put-byte-2 (
 ) (put-decimal-at t) put-decimal.Post
 put-decimal-add-put-byte-2 t c = search needs
 
--- src/text.rt:34:5
 put-decimal-put-byte-requires-2 : (t : ℕ) → put-decimal-lts.Need-put-byte-requires-2 (
   put-byte-reads.Asked,
   put-byte-reads.Learnt,
@@ -123,7 +114,6 @@ put-decimal-put-byte-requires-2 t c κs =
     let d = c .before .before .before .put-decimal in
     omega (arith, b .pre .1, d .ensures .place, d .kept .0, more-length (b .args .n) (c .before .before .before .before .before .if1 .left))
 
--- src/text.rt:26:1
 put-decimal-same-length-2 : (t : ℕ) → put-decimal-lts.Need-same-length-2 (
   put-byte-reads.Asked,
   put-byte-reads.Learnt,
@@ -132,7 +122,6 @@ put-decimal-same-length-2 : (t : ℕ) → put-decimal-lts.Need-same-length-2 (
 ) (put-decimal-at t) put-decimal.Post
 put-decimal-same-length-2 t c = search needs
 
--- src/text.rt:26:1
 put-decimal-returns-2 : (t : ℕ) → put-decimal-lts.Need-returns-2 (
   put-byte-reads.Asked,
   put-byte-reads.Learnt,

@@ -6,8 +6,6 @@ use Rattle.lister.proofs.Decimal.{length-decimal64}
 use Rattle.lister.proofs.Wrote.{wrote-then}
 use Rattle.lister.proofs.writing.put_line.Statement.{statement}
 use Rattle.lister.proofs.writing.put_line.Tie as tie
-use Rattle.lister.proofs.writing.put_line.Reads as reads
-use Rattle.lister.proofs.writing.put_line.Lts as lts
 
 put-decimal-requires : tie.Need-put-decimal-requires
 put-decimal-requires c κs =

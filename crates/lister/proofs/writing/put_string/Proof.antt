@@ -7,8 +7,6 @@ use borrow.Author.Needs.{needs}
 use Rattle.lister.proofs.Wrote.{wrote-part}
 use Rattle.lister.proofs.writing.put_string.Statement.{statement}
 use Rattle.lister.proofs.writing.put_string.Tie as tie
-use Rattle.lister.proofs.writing.put_string.Reads as reads
-use Rattle.lister.proofs.writing.put_string.Lts as lts
 
 returns : tie.Need-returns
 returns c =
