@@ -2,8 +2,9 @@
  * The unit's answers to lines of calls, by the C interface. Each line is NAME CALL words: byte strings in hex, "-" for
  * an empty one, then numbers in decimal; the answer is NAME, the number, and what was lent as it is after the call. An
  * output is lent full of A5h, with as many bytes as the line's last word says; so is each number that a call stores, and
- * a session to be started. A line of session_issue is a session's whole life: prefix, start, the spent byte that is set
- * after the start, and rooms with commas between. The start is answered as NAME.start, then each issue by a line.
+ * a session to be started. A line of session_issue or of seal_next ends with a session's whole life: prefix, start, the
+ * spent byte that is set after the start, and rooms with commas between. The start is answered as NAME.start, then each
+ * call by a line.
  */
 #include "cases.h"
 #include "spadeswirl.h"
@@ -80,6 +81,7 @@ static uint8_t page_read(void) { return spadeswirl_page_read(S(0), stored); }
 static uint8_t page_load(void) { return spadeswirl_page_load(S(0), S(1), out, out_len, stored); }
 static uint8_t session_start(void) { return spadeswirl_session_start(&session, (uint32_t)numbers[0], numbers[1]); }
 static uint8_t session_issue(void) { return spadeswirl_session_issue(&session, out, out_len); }
+static uint8_t seal_next(void) { return spadeswirl_seal_next(&session, S(0), S(1), S(2), S(3), out, out_len); }
 
 /* How many strings and numbers a call takes, what it shows, and how many numbers it stores. */
 static const struct call {
@@ -99,6 +101,7 @@ static const struct call {
     { "label_check", 1, 0, NOTHING, 1, label_check },
     { "page_read", 1, 0, NOTHING, 14, page_read }, { "page_load", 2, 0, OUTPUT, 14, page_load },
     { "session_start", 0, 2, SESSION, 0, session_start }, { "session_issue", 0, 3, OUTPUT | SESSION, 0, session_issue },
+    { "seal_next", 4, 3, OUTPUT | SESSION, 0, seal_next },
 };
 
 static void show_session(void)
@@ -150,7 +153,7 @@ static void answers(const char *name, const struct call *call, char **words)
     for (int i = 0; i < call->numbers; i++)
         numbers[i] = number_at(words[call->strings + i], &rest);
     memset(&session, 0xa5, sizeof session);
-    if (call->make == session_issue)
+    if (call->make == session_issue || call->make == seal_next)
         begin_session(name);
     if (call->shows & OUTPUT) {
         rest = words[call->strings + call->numbers];

@@ -2,13 +2,12 @@
  * The second program: answers lines of calls as document 01 has them, on OpenSSL's libcrypto. It shares no code
  * with the unit. Each line is NAME CALL words: byte strings, then numbers in decimal; its answer is NAME, the number,
  * and what was lent as it is after the call. An output is lent full of A5h, with as many bytes as the line's last word
- * says; so is a number stored, and a session to be started. A line of session_issue is prefix, start, spent byte, and
- * rooms with commas between: the start is answered as NAME.start, then each issue by a line.
+ * says; so is a number stored, and a session to be started. A line of session_issue or of seal_next ends with prefix,
+ * start, spent byte, and rooms with commas between: the start is answered as NAME.start, then each call by a line.
  */
 #include "lists.h"
+#include "next.h"
 #include "pages.h"
-#include "records.h"
-#include "sessions.h"
 
 #define DATA_MAX 4152
 
@@ -106,11 +105,14 @@ static int made(int call, struct bytes *w, const unsigned long long *n, struct b
     case 17: return page_load(w, out, stored);
     case 18: return session_start(session, n[0], n[1]);
     case 19: return session_issue(session, out);
+    case 20: return seal_next(session, w, out);
     }
     return -1;
 }
 
+/* The calls whose line is a session's life. */
 #define ISSUES 19
+#define SEALS_NEXT 20
 
 /*
  * How many byte strings and numbers a call takes, what its answer shows, the output lent (o), the block (b), the session
@@ -128,6 +130,7 @@ static const struct {
     { "seal", 5, 0, "o", 0 }, { "open", 3, 0, "o", 1 }, { "record_check", 1, 0, "", 0 }, { "list_check", 1, 2, "", 1 },
     { "list_step", 1, 3, "", 2 }, { "label_check", 1, 0, "", 1 }, { "page_read", 1, 0, "", PAGE_FIELDS },
     { "page_load", 2, 0, "o", PAGE_FIELDS }, { "session_start", 0, 2, "i", 0 }, { "session_issue", 0, 3, "oi", 0 },
+    { "seal_next", 4, 3, "oi", 0 },
 };
 
 static int shown(int call, char what)
@@ -183,7 +186,7 @@ int main(void)
         for (int i = 0; i < calls[at].numbers; i++)
             numbers[i] = strtoull(words[2 + strings + i], NULL, 10);
         memset(&session, 0xa5, sizeof session);
-        if (at == ISSUES) {
+        if (at == ISSUES || at == SEALS_NEXT) {
             printf("%s.start %d", words[0], session_start(&session, numbers[0], numbers[1]));
             put_session(&session);
             putchar('\n');
