@@ -6,7 +6,7 @@ use mathlib.Core.List.{List}
 use Prim.Native.Nat.{ℕ, _+_, _-_, _≤_, _<_}
 use native.Mathlib.Omega.{arith}
 use lib.Dec.{eqb}
-use borrow.Author.Tests.{eqb-true, eqb-false}
+use borrow.Author.Tests.{eqb-false}
 use Rattle.octets.specs.Lent.{when}
 use Rattle.session.specs.Iv.{lastField, withFields, isSpent, after}
 use Rattle.session.specs.Calls.{Answer, advanceAnswer}

@@ -1,5 +1,5 @@
-// The walkthrough: reads a page's descriptor list of at most 4,096 bytes on standard input, and prints in hex, a line each, the count that opening gives
-// and each descriptor that a reader shows, or `refused 2`; then the IVs of a session that starts at 2^64-2, and the number 10.
+// The walkthrough: reads a page's descriptor list on standard input, its first 4,096 bytes at most, and prints in hex, a line each, the count that opening
+// gives and each descriptor that a reader shows, or `refused 2`; then the IVs of a session that starts at 2^64-2, and the number 10, `0a`.
 use descriptors::cursor::Cursor;
 use descriptors::cursor::advance_at;
 use descriptors::cursor::begin;
@@ -64,6 +64,7 @@ fn show_all(list: &[u8], first: Cursor, count: usize) -> Cursor
 }
 
 // Walks the list to its end, and answers what opening gave, or what the step after the last gives: 0, for none is left.
+// It opens by `begin`, which `reader::open` rests on: a local that holds a reader would ask for a proof by hand.
 fn walk(list: &[u8]) -> u8
     ensures { λ n. ⌜ n ≡ listNumber false false (now (list .entry)) ⌝ }
 {
