@@ -6,7 +6,7 @@ use mathlib.Core.List.{List, [], _∷_}
 use Prim.Native.Nat.{ℕ, _+_, _≤_}
 use native.Mathlib.Omega.{arith}
 use borrow.Author.Tests.{le-ltb}
-use lib.ListN.{length, length-take}
+use lib.ListN.{length}
 use Rattle.octets.specs.Lent.{lowest, over, answer}
 use Rattle.octets.specs.Tests.{partOf}
 use Rattle.octets.proofs.Lent.{isNot-right}

@@ -1,22 +1,20 @@
 -- A record laid out from its parts: its length; it keeps to the layout, and the parts read from it are those.
 -- Assumes nothing.
-use mathlib.Core.Path.{_≡_, refl, sym, ap, ap₂, _∙_}
+use mathlib.Core.Path.{_≡_, sym, ap, ap₂, _∙_}
 use mathlib.Core.Bool.{true}
 use mathlib.Core.List.{List, _++_, append-assoc}
 use Prim.Native.Nat.{ℕ, _+_, _≤_}
 use native.Mathlib.Omega.{arith}
-use lib.ListN.{length, take, length-append}
-use lib.Seq.{take-at, drop-at, take-all}
+use lib.ListN.{length, length-append}
+use lib.Seq.{take-at}
 use Rattle.octets.specs.Tests.{partOf}
-use Rattle.octets.proofs.BigEndian.{number-be}
 use Rattle.octets.proofs.Tests.{part-at, part-after}
 use Rattle.keytable.specs.Row.{nameMax}
 use Rattle.modes.specs.Calls.{textMax}
-use Rattle.record.specs.Record.{modeOf, ivAt, textAt, tagAt, endAt, layoutOk, frontIn, ivIn, textIn, tagIn, header, front}
+use Rattle.record.specs.Record.{modeOf, ivAt, textAt, tagAt, endAt, layoutOk, frontIn, ivIn, textIn, tagIn, front}
 use Rattle.record.specs.Laws.{ReadBack}
-use Rattle.record.proofs.Numbers.{iv-size}
 use Rattle.record.proofs.Parts.{Kept, kept-layout}
-use Rattle.record.proofs.Written.{length-front, read-back}
+use Rattle.record.proofs.Written.{length-front, read-back, front-kept}
 
 abbrev pub laid : ℕ → List ℕ → ℕ → List ℕ → List ℕ → List ℕ → List ℕ
 laid u name n iv c g = front u name n ++ (iv ++ (c ++ g))
@@ -41,21 +39,7 @@ module _ (u : ℕ) (name : List ℕ) (n : ℕ) (iv c g : List ℕ) (iv-long : le
     fields = read-back u n name (iv ++ (c ++ g)) short few
 
     kept : Kept (laid u name n iv c g)
-    unfolding front header
-    kept =
-        record {
-          format = refl;
-          zero-byte = refl;
-          name-at = refl;
-          named = rw (fields .size) named;
-          iv-at = number-be 2 (ivAt (length name)) (omega arith) ∙ ap ivAt (sym (fields .size));
-          iv-long = number-be 2 (modeOf u .ivSize) (omega (arith, iv-size u));
-          text-at = number-be 4 (textAt (modeOf u) (length name)) (omega (arith, iv-size u)) ∙ ap (textAt (modeOf u)) (sym (fields .size));
-          tag-at =
-              number-be 4 (tagAt (modeOf u) (length name) n) (omega (arith, iv-size u))
-              ∙ ap₂ (tagAt (modeOf u)) (sym (fields .size)) (sym (fields .count));
-          end-at = length-laid ∙ ap₂ (endAt (modeOf u)) (sym (fields .size)) (sym (fields .count));
-        }
+    kept = front-kept u n name (iv ++ (c ++ g)) short few named length-laid
 
     -- the places, once the fields are known
     places : (r : List ℕ) → laid u name n iv c g ≡ r → ReadBack u n name r

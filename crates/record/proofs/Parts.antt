@@ -1,15 +1,13 @@
 -- A record that keeps to the layout: what each test tells, and that it is its front, its IV, its ciphertext and its tag, end to end.
 -- Assumes nothing.
-use mathlib.Core.Path.{_≡_, sym, ap, _∙_}
+use mathlib.Core.Path.{_≡_}
 use mathlib.Core.Bool.{true}
 use mathlib.Core.List.{List, _++_}
-use Prim.Native.Nat.{ℕ, _+_, _≤_}
+use Prim.Native.Nat.{ℕ, _≤_}
 use native.Mathlib.Omega.{arith}
 use borrow.Author.Tests.{eqb-true, eq-eqb, leb-true, le-leb}
-use lib.ListN.{length, getD, drop, take-append-drop, length-drop}
-use lib.Seq.{take-all, drop-drop}
+use lib.ListN.{length, getD}
 use Rattle.octets.specs.BigEndian.{numberAt}
-use Rattle.octets.specs.Tests.{partOf}
 use Rattle.octets.proofs.Tests.{every-at, length-part, parts-whole}
 use Rattle.record.specs.Record.{recordFormat, nameAt, ivAt, textAt, tagAt, endAt, countIn, nameSize, modeFor, layoutTests, layoutOk, frontIn, nameIn, ivIn, textIn, tagIn}
 

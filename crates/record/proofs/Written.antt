@@ -2,8 +2,8 @@
 -- Assumes nothing.
 use mathlib.Core.Path.{_≡_, refl, sym, ap, ap₂, _∙_}
 use mathlib.Core.Bool.{true}
-use mathlib.Core.List.{List, [], _∷_, _++_}
-use Prim.Native.Nat.{ℕ, _+_, _≤_}
+use mathlib.Core.List.{List, [], _∷_, _++_, append-assoc}
+use Prim.Native.Nat.{ℕ, _+_, _^_, _≤_, _<_}
 use native.Mathlib.Omega.{arith}
 use lib.ListN.{length, take, drop}
 use lib.Seq.{take-add, take-at}
@@ -13,8 +13,9 @@ use Rattle.octets.proofs.Values.{bytesAt-part}
 use Rattle.octets.proofs.BigEndian.{number-be, be-numberAt}
 use Rattle.keytable.specs.Row.{nameMax}
 use Rattle.modes.specs.Calls.{textMax}
-use Rattle.record.specs.Record.{recordFormat, nameAt, ivAt, modeIn, countIn, nameSize, layoutOk, frontIn, nameIn, header, front}
+use Rattle.record.specs.Record.{recordFormat, nameAt, modeOf, ivAt, textAt, tagAt, endAt, modeIn, countIn, nameSize, layoutOk, frontIn, nameIn, header, front}
 use Rattle.record.specs.Laws.{ReadBack}
+use Rattle.record.proofs.Numbers.{iv-size}
 use Rattle.record.proofs.Parts.{Kept, layout-kept, length-nameIn}
 
 -- ---- there
@@ -23,25 +24,67 @@ pub length-front : (u : ℕ) (name : List ℕ) (n : ℕ) → length (front u nam
 unfolding front header
 length-front u name n = omega arith
 
+-- a written header, whatever comes after it
+module _ (u k n : ℕ) (rest : List ℕ) (short : k ≤ nameMax) (few : n < 2 ^ 31) where
+  pub header-mode : modeIn (header u k n ++ rest) ≡ u
+  unfolding header
+  header-mode = refl
+
+  pub header-count : countIn (header u k n ++ rest) ≡ n
+  unfolding header
+  header-count = number-be 4 n (omega (arith, few))
+
+  pub header-size : nameSize (header u k n ++ rest) ≡ k
+  unfolding header
+  header-size = number-be 2 k (omega (arith, short))
+
+  -- its offsets match, and so does the total where the record has that length
+  pub header-kept : 1 ≤ k → length (header u k n ++ rest) ≡ endAt (modeOf u) k n → Kept (header u k n ++ rest)
+  unfolding header
+  header-kept named whole =
+      record {
+        format = refl;
+        zero-byte = refl;
+        name-at = refl;
+        named = rw header-size named;
+        iv-at = number-be 2 (ivAt k) (omega (arith, short)) ∙ ap ivAt (sym header-size);
+        iv-long = number-be 2 (modeOf u .ivSize) (omega (arith, iv-size u));
+        text-at = number-be 4 (textAt (modeOf u) k) (omega (arith, short, iv-size u)) ∙ ap (textAt (modeOf u)) (sym header-size);
+        tag-at =
+            number-be 4 (tagAt (modeOf u) k n) (omega (arith, short, few, iv-size u))
+            ∙ ap₂ (tagAt (modeOf u)) (sym header-size) (sym header-count);
+        end-at = whole ∙ ap₂ (endAt (modeOf u)) (sym header-size) (sym header-count);
+      }
+
 module _ (u n : ℕ) (name rest : List ℕ) (short : length name ≤ nameMax) (few : n ≤ textMax) where
-  mode-back : modeIn (front u name n ++ rest) ≡ u
-  unfolding front header
-  mode-back = refl
+  -- front and what follows, as a header and what follows
+  front-header : header u (length name) n ++ (name ++ rest) ≡ front u name n ++ rest
+  unfolding front
+  front-header = sym (append-assoc (header u (length name) n) name rest)
 
-  count-back : countIn (front u name n ++ rest) ≡ n
-  unfolding front header
-  count-back = number-be 4 n (omega arith)
-
-  size-back : nameSize (front u name n ++ rest) ≡ length name
-  unfolding front header
-  size-back = number-be 2 (length name) (omega arith)
-
-  name-back : nameIn (front u name n ++ rest) ≡ name
+  name-back : nameSize (front u name n ++ rest) ≡ length name → nameIn (front u name n ++ rest) ≡ name
   unfolding front header nameIn
-  name-back = take-at name rest (nameSize (front u name n ++ rest)) (sym size-back)
+  name-back e = take-at name rest (nameSize (front u name n ++ rest)) (sym e)
 
   pub read-back : ReadBack u n name (front u name n ++ rest)
-  read-back = record { mode = mode-back; count = count-back; size = size-back; name-is = name-back }
+  read-back = record { mode = rw front-header at mode; count = rw front-header at count; size = size-is; name-is = name-back size-is }
+    where
+      mode : modeIn (header u (length name) n ++ (name ++ rest)) ≡ u
+      mode = header-mode u (length name) n (name ++ rest) short (omega (arith, few))
+
+      count : countIn (header u (length name) n ++ (name ++ rest)) ≡ n
+      count = header-count u (length name) n (name ++ rest) short (omega (arith, few))
+
+      size : nameSize (header u (length name) n ++ (name ++ rest)) ≡ length name
+      size = header-size u (length name) n (name ++ rest) short (omega (arith, few))
+
+      size-is : nameSize (front u name n ++ rest) ≡ length name
+      size-is = rw front-header at size
+
+  pub front-kept : 1 ≤ length name → length (front u name n ++ rest) ≡ endAt (modeOf u) (length name) n → Kept (front u name n ++ rest)
+  front-kept named whole =
+      rw front-header at
+      (header-kept u (length name) n (name ++ rest) short (omega (arith, few)) named (ap length front-header ∙ whole))
 
 -- ---- back
 
