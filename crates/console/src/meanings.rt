@@ -1,0 +1,1 @@
+pub(crate) fn meaning_of() {}

@@ -1,0 +1,2 @@
+// seal
+pub(crate) fn seal() {}
