@@ -1,2 +1,3 @@
-// Words for those who read and type them: what each of document 01's numbers means.
+// What the programs read and write as text.
+pub mod hex;
 pub mod meaning;
