@@ -39,5 +39,9 @@ pub(crate) fn open() {
     let table_size = t.size;
     let record_size = r.size;
     let associated_size = a.size;
-    open_bytes(&table[..table_size], &record[..record_size], &associated[..associated_size]);
+    open_bytes(
+        &table[..table_size],
+        &record[..record_size],
+        &associated[..associated_size],
+    );
 }

@@ -3,6 +3,7 @@ use crate::saying::cannot_read;
 use crate::saying::misuse;
 use libc::STDIN_FILENO;
 use octets::strings::equal;
+use wording::hex;
 ghost use Rattle.io.specs.Counts.{Counts};
 
 // How many bytes were put at the start of a lent room, and whether they are all there: where not, that was said on standard error.
@@ -73,4 +74,40 @@ pub(crate) fn take_optional(i: usize, room: &mut [u8]) -> Taken
         };
     }
     take_file(i, room)
+}
+
+fn read_word(word: &[u8], room: &mut [u8]) -> Taken
+    ensures { λ r. ⌜ Counts (r .size) (now (room .exit)) ⌝ }
+{
+    if hex::read(word, room) != 0 {
+        misuse(b"a name or an IV is two hexadecimal digits for each byte");
+        return Taken {
+            size: 0,
+            whole: false,
+        };
+    }
+    Taken {
+        size: word.len() / 2,
+        whole: true,
+    }
+}
+
+// The bytes that argument i is the digits of. One of more than 4,096 digits is too long for any use, and its front shows that as well.
+pub(crate) fn take_word(i: usize, room: &mut [u8]) -> Taken
+    ensures { λ r. ⌜ Counts (r .size) (now (room .exit)) ⌝ }
+{
+    let mut word = io::buffer();
+    let size = os::arg(i, &mut word);
+    let error = os::errno();
+    if error == libc::ENAMETOOLONG {
+        return read_word(&word, room);
+    }
+    if error != 0 {
+        misuse(b"a name or an IV is missing");
+        return Taken {
+            size: 0,
+            whole: false,
+        };
+    }
+    read_word(&word[..size], room)
 }
