@@ -1,12 +1,12 @@
 // label LABEL
-use crate::rooms::short_room;
+use crate::rooms::long_room;
 use crate::saying::refuse;
 use crate::saying::write_count;
 use crate::taking::take_file;
 use descriptors::label_check;
 
 pub(crate) fn label() {
-    let mut label = short_room();
+    let mut label = long_room();
     let taken = take_file(2, &mut label);
     if !taken.whole {
         return;

@@ -1,6 +1,6 @@
 // open TABLE RECORD [ASSOCIATED]
-use crate::rooms::record_room;
-use crate::rooms::short_room;
+use crate::rooms::associated_room;
+use crate::rooms::long_room;
 use crate::rooms::table_room;
 use crate::rooms::text_room;
 use crate::saying::refuse;
@@ -26,12 +26,12 @@ pub(crate) fn open() {
     if !t.whole {
         return;
     }
-    let mut record = record_room();
+    let mut record = long_room();
     let r = take_file(3, &mut record);
     if !r.whole {
         return;
     }
-    let mut associated = short_room();
+    let mut associated = associated_room();
     let a = take_optional(4, &mut associated);
     if !a.whole {
         return;

@@ -1,4 +1,4 @@
-// Room for what is read, a byte more than the unit accepts, so that the library's own number refuses what is longer; and for what is written.
+// Room for what is read, at least a byte more than the unit accepts, so that the library's own number refuses what is longer; and for what is written.
 ghost use mathlib.Core.Path.{_≡_};
 ghost use lib.ListN.{length};
 
@@ -9,8 +9,8 @@ pub(crate) fn table_room() -> [u8; 4617]
     [0; 4617]
 }
 
-// The caller's associated data, or a label.
-pub(crate) fn short_room() -> [u8; 4097]
+// The caller's associated data.
+pub(crate) fn associated_room() -> [u8; 4097]
     ensures { λ r. ⌜ 4097 ≡ length r ⌝ }
 {
     [0; 4097]
@@ -23,14 +23,23 @@ pub(crate) fn word_room() -> [u8; 2048]
     [0; 2048]
 }
 
+// A plaintext, read or written.
 pub(crate) fn text_room() -> [u8; 1048577]
     ensures { λ r. ⌜ 1048577 ≡ length r ⌝ }
 {
     [0; 1048577]
 }
 
-pub(crate) fn record_room() -> [u8; 1048661]
-    ensures { λ r. ⌜ 1048661 ≡ length r ⌝ }
+// A record that is written.
+pub(crate) fn record_room() -> [u8; 1048660]
+    ensures { λ r. ⌜ 1048660 ≡ length r ⌝ }
 {
-    [0; 1048661]
+    [0; 1048660]
+}
+
+// A record or a label to be judged: by its layout a long one is 2 or 4, so that one byte more would not do.
+pub(crate) fn long_room() -> [u8; 4194304]
+    ensures { λ r. ⌜ 4194304 ≡ length r ⌝ }
+{
+    [0; 4194304]
 }

@@ -1,6 +1,6 @@
 // seal TABLE NAME IV DATA [ASSOCIATED]
+use crate::rooms::associated_room;
 use crate::rooms::record_room;
-use crate::rooms::short_room;
 use crate::rooms::table_room;
 use crate::rooms::text_room;
 use crate::rooms::word_room;
@@ -34,7 +34,7 @@ fn seal_named(table: &[u8], name: &[u8], iv: &[u8]) {
     if !p.whole {
         return;
     }
-    let mut associated = short_room();
+    let mut associated = associated_room();
     let a = take_optional(6, &mut associated);
     if !a.whole {
         return;
