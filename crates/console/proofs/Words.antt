@@ -6,13 +6,12 @@ use mathlib.Core.List.{List, [], _∷_}
 use Prim.Native.Nat.{ℕ, _/_, _≤_}
 use native.Mathlib.Omega.{arith}
 use lib.Dec.{ltb}
-use lib.ListN.{length, take}
+use lib.ListN.{length}
 use lib.Seq.{length-take-le}
 use borrow.Author.Tests.{ltb-false}
-use Rattle.octets.specs.Lent.{when, over}
-use Rattle.octets.proofs.Lent.{none-applies, length-over}
+use Rattle.octets.proofs.Lent.{none-applies}
 use Rattle.io.specs.Counts.{Counts}
-use Rattle.wording.specs.Hex.{isHex, bytesOf, hexRead}
+use Rattle.wording.specs.Hex.{isHex, hexRead}
 
 module _ (word room after : List ℕ) (n : ℕ) (reads : hexRead word room ≡ (n, after)) (done : n ≡ 0) where
   within : length word / 2 ≤ length room
