@@ -1,0 +1,35 @@
+// The unit on a command line: argument 1 is the command, and the others are file names, `-` for standard input, and hexadecimal words.
+// What a command gives goes to standard output. A refusal is a line `6: no row of that name` on standard error, and misuse any other line there:
+// a program has no exit status, so `./spadeswirl` makes one of these.
+mod labels;
+mod meanings;
+mod opening;
+mod rooms;
+mod saying;
+mod sealing;
+mod tables;
+mod taking;
+
+use octets::strings::equal;
+
+fn run(command: &[u8]) {
+    if equal(command, b"seal") {
+        sealing::seal();
+    } else if equal(command, b"open") {
+        opening::open();
+    } else if equal(command, b"check-table") {
+        tables::check_table();
+    } else if equal(command, b"label") {
+        labels::label();
+    } else if equal(command, b"meaning") {
+        meanings::meaning_of();
+    } else {
+        saying::misuse(b"no such command");
+    }
+}
+
+fn main() {
+    let mut word = io::buffer();
+    let size = os::arg(1, &mut word);
+    run(&word[..size]);
+}

@@ -1,0 +1,47 @@
+// open TABLE RECORD [ASSOCIATED]
+use crate::rooms::associated_room;
+use crate::rooms::long_room;
+use crate::rooms::table_room;
+use crate::rooms::text_room;
+use crate::saying::refuse;
+use crate::saying::write_out;
+use crate::taking::take_file;
+use crate::taking::take_optional;
+use octets::strings::part;
+
+fn open_bytes(table: &[u8], record: &[u8], associated: &[u8]) {
+    let mut plain = text_room();
+    let mut count = 0;
+    let number = record::opening::open(table, record, associated, &mut plain, &mut count);
+    if number != 0 {
+        refuse(number);
+        return;
+    }
+    write_out(part(&plain, 0, count as usize));
+}
+
+pub(crate) fn open() {
+    let mut table = table_room();
+    let t = take_file(2, &mut table);
+    if !t.whole {
+        return;
+    }
+    let mut record = long_room();
+    let r = take_file(3, &mut record);
+    if !r.whole {
+        return;
+    }
+    let mut associated = associated_room();
+    let a = take_optional(4, &mut associated);
+    if !a.whole {
+        return;
+    }
+    let table_size = t.size;
+    let record_size = r.size;
+    let associated_size = a.size;
+    open_bytes(
+        &table[..table_size],
+        &record[..record_size],
+        &associated[..associated_size],
+    );
+}

@@ -1,0 +1,4 @@
+pub mod Hex
+pub mod Laws
+pub mod Meaning
+pub mod MeaningLaws

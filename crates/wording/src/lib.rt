@@ -1,0 +1,3 @@
+// What the programs read and write as text.
+pub mod hex;
+pub mod meaning;
