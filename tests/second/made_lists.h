@@ -56,7 +56,7 @@ static inline void any_list_step(void)
     write_numbered(MADE, "list_step", one_in(4) ? bad_list(list) : list, numbers, 3);
 }
 
-/* The flaw of 2: a needed type that is not there, a zero byte that is not zero, or a bad list. */
+/* The flaw of 2: a needed type that is not there, a bad list, a zero byte that is not zero, or hardly any bytes. */
 static inline void any_label_check(void)
 {
     unsigned flaws = FLAWS(2, 4), way = (unsigned)below(3);
@@ -65,7 +65,7 @@ static inline void any_label_check(void)
     if (HAS(flaws, 4) || one_in(20))
         label = label_as_long(HAS(flaws, 4) ? LABEL_MAX + 1 + (one_in(2) ? 0 : below(100)) : LABEL_MAX - below(2), 0xc0);
     if (HAS(flaws, 2) && (way == 2 || HAS(flaws, 4)))
-        label = one_in(4) ? damaged(label) : changed(label, below(2), 1u << below(8));
+        label = one_in(4) ? damaged(label) : one_in(4) ? cut(label, below(7)) : changed(label, below(2), 1u << below(8));
     write_made("label_check", &label, 1, NO_OUTPUT);
 }
 

@@ -36,13 +36,13 @@ static inline struct bytes bad_page(struct bytes page)
 /* A page with a field, a KEK type or a format that is not permitted. */
 static inline struct bytes page_not_permitted(struct bytes page)
 {
-    static const unsigned formats_unknown[] = { 2, 3, 5, 6, 0x10, 0x81, 0xff }, types[] = { 0, 3, 4, 0x100, 0x101, 0x200, 0xffff };
+    static const unsigned unknown[] = { 2, 3, 5, 6, 0x10, 0x81, 0xff }, types[] = { 0, 3, 4, 0x100, 0x101, 0x200, 0xffff };
     switch (below(page.at[9] == WRAPPED_KEY && get(page.at + 18, 2) > 1 ? 6 : 5)) {
     case 0: return with(page, 4, 1, (page.at[4] & 0x1f) | (3 + below(5)) << 5);
     case 1: return with(page, 6, 1, 3 + below(one_in(2) ? 1 : 253));
     case 2: return with(page, 7, 1, 4 + below(one_in(2) ? 1 : 252));
     case 3: return with(page, 8, 1, one_in(2) ? 0 : 3 + below(253));
-    case 4: return with(page, 9, 1, ONE_OF(formats_unknown));
+    case 4: return with(page, 9, 1, ONE_OF(unknown));
     }
     return with(page, PAGE_HEAD, 2, ONE_OF(types));
 }
@@ -73,7 +73,9 @@ static inline struct loading any_loading(unsigned flaws)
         wrapped = bit_changed(wrapped);
     if (HAS(flaws, 8))
         wrapped = sized(wrapped, another_length(PAGE_WRAPPED));
-    key = format == PLAIN_KEY ? some(PAGE_KEY) : format == REFERENCE ? name : wrapped_part(1 + (unsigned)below(2), name, wrapped);
+    key = format == REFERENCE ? name : some(PAGE_KEY);
+    if (format == WRAPPED_KEY)
+        key = wrapped_part(1 + (unsigned)below(2), name, wrapped);
     if (HAS(flaws, 2) && in_part)
         key = bad_part(format, key);
     if (HAS(flaws, 4) && !by_name)

@@ -68,8 +68,8 @@ static inline void make_wrong(struct opening *o, size_t front, struct row *r)
 }
 
 /*
- * The tag is right over whatever the header says, but for the flaw of 9. The flaw of 2 is in the header, in the total, in
- * both together, as sums of 32 bits would have them fit, or that the name is empty.
+ * The tag is right over whatever the header says, but for the flaw of 9. The flaw of 2 is in the header, which has the
+ * most ways; in the total; in both, so that sums of 32 bits would fit; or it is an empty name.
  */
 static inline struct opening any_opening(unsigned flaws)
 {
