@@ -31,6 +31,7 @@ struct lent {
 
 static struct lent strings[STRINGS], out, stored, life;
 static uint64_t numbers[NUMBERS];
+static int nulls;
 
 static void give_up(const char *what, const char *about)
 {
@@ -101,8 +102,8 @@ static uint64_t number_at(char *word, char **rest)
     return n;
 }
 
-/* An empty string is a null pointer, and so is an output with no room. */
-#define LENT(piece) (piece).len ? (piece).at : NULL, (piece).len
+/* Something empty is a null pointer in every other line, and else points past what may be touched. */
+#define LENT(piece) (piece).len || !nulls ? (piece).at : NULL, (piece).len
 #define S(i) LENT(strings[i])
 #define OUT LENT(out)
 #define STORED (uint64_t *)stored.at
@@ -232,6 +233,7 @@ int main(void)
             fprintf(stderr, "not a call: %s\n", words[0]);
             return 2;
         }
+        nulls = !nulls;
         answers(words[0], call, words + 2);
     }
     free(line);
