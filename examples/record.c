@@ -1,69 +1,149 @@
 /*
- * Seals a record by a row of a key table and opens it again, and shows what the unit answers to a damaged record, to a
- * name that no row has, and to a key that is for other keys. Built and run by `examples/run record`.
+ * Seals records by a key table and opens them, then shows each refusal that sealing and opening can give: 1 to 7, 9 and
+ * 10. A line says what was tried, and the number that came with its meaning. The number that is expected stands beside
+ * each call below; the program ends with status 1 where another came, or where a refusal changed the output. Built and
+ * run by `examples/run record`; examples/record.txt is what it prints.
  */
-#include <stdio.h>
-#include <string.h>
-#include "spadeswirl.h"
+#include "answers.h"
 
-#define ROWS 2
+/* What a sealing and an opening read. */
+struct sealing {
+    struct bytes table, name, iv, aad, plain;
+};
+struct opening {
+    struct bytes table, record, aad;
+};
 
-static uint8_t table[8 + 72 * ROWS];
-
-/* A row: the name's length, its use, the name, and a key of 32 bytes that count up from `first`. */
-static void row(int i, const char *name, uint8_t use, uint8_t first)
+static uint8_t seal(struct sealing s, size_t room)
 {
-    uint8_t *at = table + 8 + 72 * i;
-    at[0] = (uint8_t)strlen(name);
-    at[1] = use;
-    memcpy(at + 8, name, strlen(name));
-    for (int k = 0; k < 32; k++)
-        at[40 + k] = (uint8_t)(first + k);
+    return spadeswirl_seal(LENT(s.table), LENT(s.name), LENT(s.iv), LENT(s.aad), LENT(s.plain), fresh_out(), room);
 }
 
-static void show(const char *what, const uint8_t *bytes, size_t n)
+/* With a session in place of the IV. */
+static uint8_t seal_next(struct spadeswirl_session *session, struct sealing s, size_t room)
 {
-    printf("%s", what);
-    for (size_t i = 0; i < n; i++)
-        printf("%s%02x", i % 24 ? "" : "\n    ", bytes[i]);
-    putchar('\n');
+    return spadeswirl_seal_next(session, LENT(s.table), LENT(s.name), LENT(s.aad), LENT(s.plain), fresh_out(), room);
 }
 
-static uint8_t seal(const char *name, const char *text, uint8_t *out, size_t room)
+static uint8_t open(struct opening o, size_t room, uint64_t *n)
 {
-    static const uint8_t iv[12] = { 0, 0, 0, 1, 0, 0, 0, 0, 0, 0, 0, 1 };
-    return spadeswirl_seal(table, sizeof table, (const uint8_t *)name, strlen(name), iv, sizeof iv,
-                           (const uint8_t *)"reel 7", 6, (const uint8_t *)text, strlen(text), out, room);
+    return spadeswirl_open(LENT(o.table), LENT(o.record), LENT(o.aad), fresh_out(), room, n);
 }
 
-static uint8_t open(const uint8_t *record, size_t size, uint8_t *out, size_t room, uint64_t *n)
+/* One byte more than a plaintext may have. */
+static uint8_t many[1048577];
+
+static void sealing_refused(struct sealing right, size_t size)
 {
-    return spadeswirl_open(table, sizeof table, record, size, (const uint8_t *)"reel 7", 6, out, room, n);
+    uint8_t broken[TABLE(3)];
+    struct sealing s;
+
+    puts("\nsealing refused:");
+    memcpy(broken, right.table.at, sizeof broken);
+    broken[3] = 4;
+    s = right, s.table.at = broken;
+    expect("a table whose header counts one row too many", 1, seal(s, sizeof out));
+    s = right, s.name.len = 0;
+    expect("an empty name", 2, seal(s, sizeof out));
+    s = right, s.iv.len = 11;
+    expect("an IV of 11 bytes", 2, seal(s, sizeof out));
+    s = right, s.name = text("a name of thirty-three letters...");
+    expect("a name of 33 bytes", 4, seal(s, sizeof out));
+    s = right, s.aad.at = many, s.aad.len = 4097;
+    expect("4,097 bytes of associated data", 4, seal(s, sizeof out));
+    s = right, s.plain.at = many, s.plain.len = 1048577;
+    expect("a plaintext of 1,048,577 bytes", 4, seal(s, sizeof out));
+    expect("an output one byte short", 5, seal(right, size - 1));
+    s = right, s.name = text("TAPE10");
+    expect("by TAPE10, which no row has", 6, seal(s, sizeof out));
+    s = right, s.name = text("KEK1");
+    expect("by KEK1, whose row is for keys", 7, seal(s, sizeof out));
+    s.table.at = broken, s.iv.len = 11;
+    expect("all of this at once: the lowest number is given", 1, seal(s, 0));
+}
+
+static void opening_refused(struct opening right)
+{
+    static const uint8_t no_rows[] = { 0, 1, 0, 0, 0, 8, 0, 72 };
+    uint8_t table[TABLE(3)], record[128];
+    struct opening o;
+    uint64_t n = 7;
+
+    puts("\nopening refused:");
+    memcpy(table, right.table.at, sizeof table);
+    table[3] = 4;
+    o = right, o.table.at = table;
+    expect("a table whose header counts one row too many", 1, open(o, sizeof out, &n));
+    o = right, o.record.len--;
+    expect("a record one byte short", 2, open(o, sizeof out, &n));
+    memcpy(record, right.record.at, right.record.len);
+    record[7]++;
+    o = right, o.record.at = record;
+    expect("a header that counts one byte more than there is", 2, open(o, sizeof out, &n));
+    record[7]--, record[2] = 3;
+    expect("a mode that is neither 1 (CCM) nor 2 (GCM)", 3, open(o, sizeof out, &n));
+    o = right, o.aad.at = many, o.aad.len = 4097;
+    expect("4,097 bytes of associated data", 4, open(o, sizeof out, &n));
+    expect("an output one byte short", 5, open(right, 15, &n));
+    o = right, o.table.at = no_rows, o.table.len = sizeof no_rows;
+    expect("by a table with no rows", 6, open(o, sizeof out, &n));
+    table[3] = 3, table[TABLE(0) + 1] = CCM;
+    o = right, o.table.at = table;
+    expect("by a table whose TAPE1 is for CCM, and the record GCM's", 7, open(o, sizeof out, &n));
+    record[2] = GCM, record[right.record.len - 1] ^= 1;
+    o = right, o.record.at = record;
+    expect("one bit of the tag changed", 9, open(o, sizeof out, &n));
+    o = right, o.aad = text("reel 8");
+    expect("other associated data than it was sealed with", 9, open(o, sizeof out, &n));
+    printf("n, which was 7 before, is %u\n", (unsigned)n);
+}
+
+/* A session that has one IV left: its last is used once, and a refused record does not use it up. */
+static void by_session(struct sealing s)
+{
+    struct spadeswirl_session session;
+    size_t size = 52 + s.name.len + s.plain.len;
+    struct bytes record = { out, size };
+
+    puts("\nwith a session in place of an IV:");
+    expect("started at its last number, 2^64 - 1", 0, spadeswirl_session_start(&session, 0x00000002, UINT64_MAX));
+    expect("into an output one byte short", 5, seal_next(&session, s, size - 1));
+    expect("sealed with the last IV", 0, seal_next(&session, s, sizeof out));
+    show("the session's record", record);
+    expect("sealed once more", 10, seal_next(&session, s, sizeof out));
+    expect("once more, and the output is short", 5, seal_next(&session, s, size - 1));
 }
 
 int main(void)
 {
-    uint8_t record[128], text[64] = "";
+    static uint8_t table[TABLE(3)];
+    static const uint8_t iv[12] = { 0, 0, 0, 1, 0, 0, 0, 0, 0, 0, 0, 1 };
+    struct sealing s = { BYTES(table), TEXT("TAPE1"), BYTES(iv), TEXT("reel 7"), TEXT("sixteen letters.") };
+    uint8_t record[52 + 5 + 16];
+    struct opening o = { BYTES(table), BYTES(record), TEXT("reel 7") };
     uint64_t n = 0;
-    const size_t size = 52 + 5 + 16;
 
-    /* format 1, the count of rows, the first row's place, the length of a row */
-    table[1] = 1, table[3] = ROWS, table[5] = 8, table[7] = 72;
-    row(0, "TAPE1", 2, 0x00);
-    row(1, "KEK", 3, 0x40);
-    printf("the table: %u\n", spadeswirl_table_check(table, sizeof table));
+    begin_table(table, 3);
+    set_row(table, 0, "TAPE1", GCM, 0x00);
+    set_row(table, 1, "TAPE2", CCM, 0x20);
+    set_row(table, 2, "KEK1", KEK, 0x40);
+    show("the key table", s.table);
+    show("the name", s.name);
+    show("the IV", s.iv);
+    show("the associated data", s.aad);
+    show("the plaintext", s.plain);
 
-    printf("sealed by TAPE1: %u\n", seal("TAPE1", "sixteen letters.", record, sizeof record));
-    show("the record:", record, size);
+    puts("\nsealed and opened:");
+    expect("sealed by TAPE1, whose row is for GCM", 0, seal(s, sizeof out));
+    memcpy(record, out, sizeof record);
+    show("the record", o.record);
+    expect("opened", 0, open(o, sizeof out, &n));
+    printf("%u bytes: %.*s\n", (unsigned)n, (int)n, (const char *)out);
 
-    printf("opened: %u", open(record, size, text, sizeof text, &n));
-    printf(", %u bytes: %.*s\n", (unsigned)n, (int)n, (const char *)text);
-
-    record[size - 1] ^= 1;
-    printf("with one bit of the tag changed: %u\n", open(record, size, text, sizeof text, &n));
-    printf("one byte short: %u\n", open(record, size - 1, text, sizeof text, &n));
-    printf("sealed by TAPE10, which no row has: %u\n", seal("TAPE10", "sixteen letters.", record, sizeof record));
-    printf("sealed by KEK, which is for keys: %u\n", seal("KEK", "sixteen letters.", record, sizeof record));
-    printf("sealed into too little room: %u\n", seal("TAPE1", "sixteen letters.", record, size - 1));
-    return 0;
+    sealing_refused(s, sizeof record);
+    opening_refused(o);
+    s.name = text("TAPE2");
+    by_session(s);
+    putchar('\n');
+    return all_as_expected();
 }

@@ -1,7 +1,8 @@
-/* What the writers of lines share: strings from a seed, and a call written as a line. */
+/* What the writers of lines share: strings and numbers from a seed, and a call written as a line. */
 #ifndef CALLS_H
 #define CALLS_H
 
+#include <stdint.h>
 #include "lines.h"
 
 #define COUNT(a) (sizeof(a) / sizeof((a)[0]))
@@ -39,6 +40,14 @@ static inline struct bytes some(size_t n)
     return b;
 }
 
+static inline uint64_t any_number(int bytes)
+{
+    uint64_t n = 0;
+    while (bytes-- > 0)
+        n = n << 8 | byte();
+    return n;
+}
+
 /* A line's name is what it is about and its place among the lines. */
 static inline void write_call(const char *about, const char *name, const struct bytes *w, int count, size_t room)
 {
@@ -59,6 +68,25 @@ static inline void write_numbered(const char *about, const char *name, struct by
     for (int i = 0; i < count; i++)
         printf(" %llu", numbers[i]);
     putchar('\n');
+}
+
+/* A session's life: the strings that each of its calls is lent, its prefix, start and spent byte, and the calls' rooms. */
+static inline void write_life(const char *about, const char *name, const struct bytes *w, int count, uint32_t prefix,
+                              uint64_t start, unsigned spent, const size_t *rooms, size_t calls)
+{
+    printf("%s.%lu %s", about, ++lines, name);
+    for (int i = 0; i < count; i++)
+        put_hex(w[i].at, w[i].len);
+    printf(" %lu %llu %u ", (unsigned long)prefix, (unsigned long long)start, spent);
+    for (size_t i = 0; i < calls; i++)
+        printf("%s%zu", i ? "," : "", rooms[i]);
+    putchar('\n');
+}
+
+/* A session that is only started. */
+static inline void write_start(const char *about, uint32_t prefix, uint64_t start)
+{
+    printf("%s.%lu session_start %lu %llu\n", about, ++lines, (unsigned long)prefix, (unsigned long long)start);
 }
 
 #endif

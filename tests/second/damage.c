@@ -23,11 +23,6 @@ static void damaged(unsigned mode, size_t k, size_t n)
     }
 }
 
-/* Words of the header, by their places and sizes; no size stands for the record's own length. */
-struct word {
-    int at, size;
-};
-
 /* A record of five bytes of text with each word of a set moved by one, the tag right over the changed front. */
 static void moved(const char *about, unsigned mode, const struct word *words, unsigned count, unsigned set, int by)
 {
@@ -49,14 +44,12 @@ static void moved(const char *about, unsigned mode, const struct word *words, un
 
 static void headers(unsigned mode)
 {
-    static const struct word all[] = { { 0, 2 }, { 2, 1 }, { 3, 1 }, { 4, 4 }, { 8, 2 }, { 10, 2 }, { 12, 2 }, { 14, 2 },
-        { 16, 4 }, { 20, 4 }, { 0, 0 } };
     static const struct word by_k[] = { { 10, 2 }, { 12, 2 }, { 16, 4 }, { 20, 4 }, { 0, 0 } };
     static const struct word by_n[] = { { 4, 4 }, { 20, 4 }, { 0, 0 } };
     for (int by = -1; by <= 1; by += 2) {
-        for (unsigned i = 0; i < COUNT(all); i++)
+        for (unsigned i = 0; i < COUNT(header_words); i++)
             for (unsigned j = 0; j <= i; j++)
-                moved("header", mode, all, COUNT(all), 1u << i | 1u << j, by);
+                moved("header", mode, header_words, COUNT(header_words), 1u << i | 1u << j, by);
         for (unsigned set = 0; set < 32; set++)
             moved("follows-k", mode, by_k, COUNT(by_k), set, by);
         for (unsigned set = 0; set < 8; set++)

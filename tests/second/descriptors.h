@@ -47,6 +47,22 @@ static inline struct bytes any_list(unsigned low, unsigned high)
     return list;
 }
 
+/* The types that a label needs. */
+static const unsigned char needed[] = { 0x00, 0x01, 0x03, 0x04 };
+
+static inline struct bytes label_of(struct bytes list)
+{
+    struct bytes zeros = { (unsigned char *)"\0", 2 };
+    return joined(zeros, list);
+}
+
+/* A label of so many bytes, the last descriptor as long as it takes. */
+static inline struct bytes label_as_long(size_t len, unsigned type)
+{
+    struct bytes label = label_of(list_of(needed, COUNT(needed), 0));
+    return joined(label, descriptor(type, some(len - label.len - 4)));
+}
+
 /* For a page and for a label, strict and not. */
 static inline void list_checks(const char *about, struct bytes list)
 {

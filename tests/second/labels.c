@@ -5,14 +5,6 @@
  */
 #include "descriptors.h"
 
-static const unsigned char needed[] = { 0x00, 0x01, 0x03, 0x04 };
-static struct bytes zeros;
-
-static struct bytes label_of(struct bytes list)
-{
-    return joined(zeros, list);
-}
-
 /* Every choice of these types, in rising order. */
 static void choices(void)
 {
@@ -57,13 +49,6 @@ static void every_byte(struct bytes label)
         label_checks("label-cut", cut(longer, n));
     label_checks("label-no-zeros", later);
     label_checks("label-more-zeros", label_of(label));
-}
-
-/* A label of so many bytes, the last descriptor as long as it takes. */
-static struct bytes label_as_long(size_t len, unsigned type)
-{
-    struct bytes label = label_of(list_of(needed, COUNT(needed), 0));
-    return joined(label, descriptor(type, some(len - label.len - 4)));
 }
 
 /* About the maximum: whole, then broken in each way; 2 comes before 4. */
@@ -111,9 +96,7 @@ static void any(void)
 int main(int argc, char **argv)
 {
     start_from(argc > 1 ? argv[1] : "1");
-    zeros = room_for(2);
-    put(zeros.at, 2, 0);
-    label_checks("label-case-12", zeros);
+    label_checks("label-case-12", label_of(nothing));
     label_checks("label-case-12", label_of(list_of(needed, COUNT(needed), 0)));
     choices();
     orders();

@@ -2,42 +2,20 @@
  * Lines of sessions' lives: starts at the boundaries, every spent byte, rooms too short between rooms that serve, and
  * many issues past the end. Inputs come from a seed, which is printed.
  */
-#include <stdint.h>
 #include "calls.h"
 
 static const uint64_t starts[] = { 0, 1, 255, 256, 65535, 65536, 0xffffffff, 0x100000000, 0x7fffffffffffffff,
     0x8000000000000000, 0xffffffff00000000, 0xfffffffffffffffc, 0xfffffffffffffffd, 0xfffffffffffffffe, 0xffffffffffffffff };
 static const uint32_t prefixes[] = { 0, 1, 0x01020304, 0x80000000, 0xa5a5a5a5, 0xfffffffe, 0xffffffff };
 
-static void begin(const char *about, const char *name, uint32_t prefix, uint64_t start)
-{
-    printf("%s.%lu %s %lu %llu", about, ++lines, name, (unsigned long)prefix, (unsigned long long)start);
-}
-
-/* A session that is only started. */
-static void started(const char *about, uint32_t prefix, uint64_t start)
-{
-    begin(about, "session_start", prefix, start);
-    putchar('\n');
-}
-
 /* A session's life; the rooms come round as often as it takes. */
 static void life(const char *about, uint32_t prefix, uint64_t start, unsigned spent, const size_t *rooms, size_t round,
                  size_t issues)
 {
-    begin(about, "session_issue", prefix, start);
-    printf(" %u ", spent);
+    size_t all[2000];
     for (size_t i = 0; i < issues; i++)
-        printf("%s%zu", i ? "," : "", rooms[i % round]);
-    putchar('\n');
-}
-
-static uint64_t any_number(int bytes)
-{
-    uint64_t n = 0;
-    while (bytes-- > 0)
-        n = n << 8 | byte();
-    return n;
+        all[i] = rooms[i % round];
+    write_life(about, "session_issue", NULL, 0, prefix, start, spent, all, issues);
 }
 
 /* Any lives, a half of them near the end, with rooms about 12 and here and there a spent byte. */
@@ -50,7 +28,7 @@ static void any(void)
             rooms[j] = byte() % 2 ? 12 : byte() % 25;
         life("any", (uint32_t)any_number(4), i % 2 ? start : UINT64_MAX - start % 16, byte() % 4 ? 0 : byte(), rooms,
              COUNT(rooms), COUNT(rooms));
-        started("any", (uint32_t)any_number(4), start);
+        write_start("any", (uint32_t)any_number(4), start);
     }
 }
 
@@ -62,7 +40,7 @@ int main(int argc, char **argv)
     start_from(argc > 1 ? argv[1] : "1");
     for (size_t i = 0; i < COUNT(starts); i++) {
         for (size_t j = 0; j < COUNT(prefixes); j++) {
-            started("start", prefixes[j], starts[i]);
+            write_start("start", prefixes[j], starts[i]);
             life("prefix", prefixes[j], starts[i], 0, whole, COUNT(whole), 6);
         }
         for (size_t j = 0; j < COUNT(spent); j++) {

@@ -14,13 +14,11 @@ static void life(const char *about, struct bytes table, struct bytes name, struc
 {
     size_t exact = HEADER + name.len + IV + plain.len + TAG;
     struct bytes w[] = { table, name, aad, plain };
-    printf("%s.%lu seal_next", about, ++lines);
-    for (int i = 0; i < 4; i++)
-        put_hex(w[i].at, w[i].len);
-    printf(" %u %llu %u ", byte() * 16777216u + byte(), (unsigned long long)start, spent);
+    size_t rooms[12];
+    uint32_t prefix = byte() * 16777216u + byte();
     for (int i = 0; i < calls; i++)
-        printf("%s%zu", i ? "," : "", i % 3 == 0 ? exact - 1 : i % 3 == 1 ? exact : exact + 3);
-    putchar('\n');
+        rooms[i] = i % 3 == 0 ? exact - 1 : i % 3 == 1 ? exact : exact + 3;
+    write_life(about, "seal_next", w, 4, prefix, start, spent, rooms, (size_t)calls);
 }
 
 int main(int argc, char **argv)

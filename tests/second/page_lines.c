@@ -214,20 +214,13 @@ static void tables(void)
         }
 }
 
-/* A page as long as that, by its last descriptor. */
-static struct bytes as_long(unsigned index, unsigned format, size_t len)
-{
-    struct bytes key = key_of(index, format), first = list_with(1);
-    return page_of(index, format, key, joined(first, descriptor(0xc0, some(len - 24 - key.len - first.len))));
-}
-
 /* About the maximum and about the longest that PAGE LENGTH can say: whole, and beside 2, 3 and 5. */
 static void limits(void)
 {
     static const size_t lens[] = { 4095, 4096, 4097, 65538, 65539, 65540, 65541 };
     for (size_t i = 0; i < COUNT(lens); i++)
         for (unsigned format = 0; format < 3; format++) {
-            struct bytes page = as_long(1, formats[format], lens[i]);
+            struct bytes page = page_as_long(1, formats[format], key_of(1, formats[format]), lens[i]);
             both("long", page);
             if (lens[i] > 5000 && format != i % 3)
                 continue;

@@ -1,6 +1,6 @@
 /*
- * What the writer of lines on key pages uses: the rows that its pages name, pages and their parts, and the two calls as
- * lines. Nothing is freed: the program is short.
+ * What the writers of lines on key pages use: the rows that the pages name, pages and their parts, and the two calls as
+ * lines. Nothing is freed: these programs are short.
  */
 #ifndef PAGE_PARTS_H
 #define PAGE_PARTS_H
@@ -97,6 +97,13 @@ static inline struct bytes list_with(unsigned descriptors)
 {
     static const unsigned char types[] = { 0x01, 0x04, 0xc0 };
     return list_of(types, descriptors, descriptors);
+}
+
+/* A page as long as that, by its last descriptor. */
+static inline struct bytes page_as_long(unsigned index, unsigned format, struct bytes key, size_t len)
+{
+    struct bytes first = list_with(1);
+    return page_of(index, format, key, joined(first, descriptor(0xc0, some(len - PAGE_HEAD - 4 - key.len - first.len))));
 }
 
 static inline struct bytes good(unsigned index, unsigned format, unsigned descriptors)

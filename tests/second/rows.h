@@ -69,6 +69,14 @@ static inline void checks(const char *about, struct bytes record)
     write_call(about, "record_check", &record, 1, NO_OUTPUT);
 }
 
+/* Words of a record's header, by their places and sizes; no size, the last, stands for the record's own length. */
+struct word {
+    int at, size;
+};
+
+static const struct word header_words[] = { { 0, 2 }, { 2, 1 }, { 3, 1 }, { 4, 4 }, { 8, 2 }, { 10, 2 }, { 12, 2 }, { 14, 2 },
+    { 16, 4 }, { 20, 4 }, { 0, 0 } };
+
 /* The second program's own sealing by a row, whatever its use. */
 static inline struct bytes record_by(const struct row *r, struct bytes aad, size_t n)
 {

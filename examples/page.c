@@ -1,0 +1,130 @@
+/*
+ * Loads keys from key pages of the three formats, then shows each refusal that a load can give, 1 to 9; and runs an IV
+ * session to its end, 10. A line says what was tried, and the number that came with its meaning. The number that is
+ * expected stands beside each call below; the program ends with status 1 where another came, or where a refusal changed
+ * the output. Built and run by `examples/run page`; examples/page.txt is what it prints.
+ */
+#include "answers.h"
+
+enum { HEAD = 20, PLAIN_KEY = 0x00, REFERENCE = 0x01, WRAPPED_KEY = 0x04 };
+
+static uint8_t table[TABLE(2)], page[256];
+static uint64_t fields[14];
+
+/* A page with this KEY part, and one descriptor after it. Answers its length. */
+static size_t set_page(uint8_t format, struct bytes key)
+{
+    static const uint8_t descriptor[] = { 0x01, 0, 0, 4, 'r', 'e', 'e', 'l' };
+    size_t len = HEAD + key.len + sizeof descriptor;
+    memset(page, 0, sizeof page);
+    page[1] = 0x10, page[3] = (uint8_t)(len - 4);
+    page[4] = 2 << 5 | 1;
+    page[6] = 2, page[7] = 2, page[8] = GCM, page[9] = format;
+    page[19] = (uint8_t)key.len;
+    memcpy(page + HEAD, key.at, key.len);
+    memcpy(page + HEAD + key.len, descriptor, sizeof descriptor);
+    return len;
+}
+
+/* A KEY part of format 04h: KEK type, the identifier's length, the identifier, and the wrapped key. */
+static struct bytes wrapped_part(uint8_t type, const char *identifier, struct bytes wrapped)
+{
+    static uint8_t part[128];
+    struct bytes all = { part, 4 + strlen(identifier) + wrapped.len };
+    part[1] = type, part[3] = (uint8_t)strlen(identifier);
+    memcpy(part + 4, identifier, strlen(identifier));
+    memcpy(part + 4 + strlen(identifier), wrapped.at, wrapped.len);
+    return all;
+}
+
+static uint8_t load(size_t len, size_t room)
+{
+    return spadeswirl_page_load(table, sizeof table, page, len, fresh_out(), room, fields);
+}
+
+static uint8_t load_wrapped(uint8_t type, const char *identifier, struct bytes wrapped)
+{
+    return load(set_page(WRAPPED_KEY, wrapped_part(type, identifier, wrapped)), 32);
+}
+
+static void loads(struct bytes key, struct bytes wrapped)
+{
+    static const char *const names[] = { "scope", "lock", "CEEM", "RDMC", "SDK", "CKOD", "CKORP", "CKORL", "encryption mode",
+        "decryption mode", "algorithm index", "key format", "KEY LENGTH", "descriptors" };
+    struct bytes loaded = { out, 32 }, sent = { page, 0 };
+
+    puts("\nloaded:");
+    expect("a page with the key itself", 0, load(set_page(PLAIN_KEY, key), 32));
+    expect("a page with a reference, VENDOR  TAPE1", 0, load(set_page(REFERENCE, text("VENDOR  TAPE1")), 32));
+    show("the key of that row", loaded);
+    sent.len = set_page(WRAPPED_KEY, wrapped_part(1, "KEK1", wrapped));
+    show("a page with the key wrapped by KEK1", sent);
+    expect("that page", 0, load(sent.len, 32));
+    show("the key that was wrapped", loaded);
+    for (int i = 0; i < 14; i++)
+        printf("%s %u%s", names[i], (unsigned)fields[i], i == 7 || i == 13 ? "\n" : ", ");
+}
+
+static void refused(struct bytes key, struct bytes wrapped)
+{
+    uint8_t changed[40];
+    struct bytes w;
+    size_t len;
+
+    puts("\nrefused:");
+    table[3] = 3;
+    expect("by a table whose header counts one row too many", 1, load(set_page(PLAIN_KEY, key), 32));
+    table[3] = 2;
+    expect("a page one byte short", 2, load(set_page(PLAIN_KEY, key) - 1, 32));
+    w = key, w.len = 31;
+    expect("a key of 31 bytes", 2, load(set_page(PLAIN_KEY, w), 32));
+    len = set_page(PLAIN_KEY, key), page[4] = 3 << 5;
+    expect("SCOPE 3", 3, load(len, 32));
+    expect("KEY FORMAT 02h", 3, load(set_page(0x02, key), 32));
+    expect("KEK type 3", 3, load_wrapped(3, "KEK1", wrapped));
+    expect("an identifier of 33 bytes", 4, load_wrapped(1, "a name of thirty-three letters...", wrapped));
+    expect("an output of 31 bytes", 5, load(set_page(PLAIN_KEY, key), 31));
+    expect("wrapped by KEK10, which no row has", 6, load_wrapped(1, "KEK10", wrapped));
+    expect("wrapped by VENDOR  TAPE1, whose row is for GCM", 7, load_wrapped(1, "VENDOR  TAPE1", wrapped));
+    w = wrapped, w.len = 24;
+    expect("a wrapped key of 24 bytes", 8, load_wrapped(1, "KEK1", w));
+    memcpy(changed, wrapped.at, sizeof changed);
+    changed[20] ^= 1, w.at = changed, w.len = sizeof changed;
+    expect("one bit of the wrapped key changed", 9, load_wrapped(1, "KEK1", w));
+}
+
+static void session(void)
+{
+    struct spadeswirl_session s;
+    struct bytes iv = { out, 12 };
+
+    puts("\nan IV session:");
+    expect("started at 2^64 - 2", 0, spadeswirl_session_start(&s, 0x0a0b0c0d, UINT64_MAX - 1));
+    expect("an IV into 11 bytes", 5, spadeswirl_session_issue(&s, fresh_out(), 11));
+    expect("an IV", 0, spadeswirl_session_issue(&s, fresh_out(), 12));
+    show("the first IV", iv);
+    expect("another", 0, spadeswirl_session_issue(&s, fresh_out(), 12));
+    show("the second IV", iv);
+    expect("a third", 10, spadeswirl_session_issue(&s, fresh_out(), 12));
+}
+
+int main(void)
+{
+    uint8_t key[32], wrapped[40];
+    struct bytes k = BYTES(key), w = BYTES(wrapped), t = BYTES(table);
+    const uint8_t *kek;
+
+    begin_table(table, 2);
+    kek = set_row(table, 0, "KEK1", KEK, 0x40) + 40;
+    set_row(table, 1, "VENDOR  TAPE1", GCM, 0x00);
+    show("the key table", t);
+    for (unsigned i = 0; i < sizeof key; i++)
+        key[i] = (uint8_t)(0x80 + i);
+    fresh_out();
+    expect("a key wrapped by KEK1", 0, spadeswirl_wrap(kek, 32, key, sizeof key, wrapped, sizeof wrapped));
+    loads(k, w);
+    refused(k, w);
+    session();
+    putchar('\n');
+    return all_as_expected();
+}

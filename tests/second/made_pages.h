@@ -1,0 +1,112 @@
+/* Random calls on key pages. */
+#ifndef MADE_PAGES_H
+#define MADE_PAGES_H
+
+#include "made_lists.h"
+#include "made_tables.h"
+
+/* A KEY part that does not keep the layout of its format. */
+static inline struct bytes bad_part(unsigned format, struct bytes key)
+{
+    if (format != WRAPPED_KEY)
+        return sized(key, format == REFERENCE ? below(REFERENCE_LEAST) : another_length(PAGE_KEY));
+    switch (below(3)) {
+    case 0: return cut(key, below(4));
+    case 1: return with(key, 2, 2, 0);
+    }
+    return with(key, 2, 2, key.len - 3 + below(one_in(2) ? 1 : 2000));
+}
+
+/* A page that does not keep the layout, whatever its KEY part: its head, its lengths or its list; or any damage. */
+static inline struct bytes bad_page(struct bytes page)
+{
+    static const int lengths[] = { 2, 18 };
+    int at = ONE_OF(lengths);
+    switch (below(7)) {
+    case 0: return damaged(page);
+    case 1: return changed(page, below(2), 1u << below(8));
+    case 2: return changed(page, 4, 2u << below(4));
+    case 3: return changed(page, 10 + below(8), 1u << below(8));
+    case 4: return with(page, (size_t)at, 2, get(page.at + at, 2) + (one_in(2) ? 1 : UINT64_MAX));
+    case 5: return fitted(sized(page, page.len + 1 + below(3)));
+    }
+    return fitted(cut(page, 4 + below(page.len - 4)));
+}
+
+/* A page with a field, a KEK type or a format that is not permitted. */
+static inline struct bytes page_not_permitted(struct bytes page)
+{
+    static const unsigned unknown[] = { 2, 3, 5, 6, 0x10, 0x81, 0xff }, types[] = { 0, 3, 4, 0x100, 0x101, 0x200, 0xffff };
+    switch (below(page.at[9] == WRAPPED_KEY && get(page.at + 18, 2) > 1 ? 6 : 5)) {
+    case 0: return with(page, 4, 1, (page.at[4] & 0x1f) | (3 + below(5)) << 5);
+    case 1: return with(page, 6, 1, 3 + below(one_in(2) ? 1 : 253));
+    case 2: return with(page, 7, 1, 4 + below(one_in(2) ? 1 : 252));
+    case 3: return with(page, 8, 1, one_in(2) ? 0 : 3 + below(253));
+    case 4: return with(page, 9, 1, ONE_OF(unknown));
+    }
+    return with(page, PAGE_HEAD, 2, ONE_OF(types));
+}
+
+struct loading {
+    struct bytes table, page;
+};
+
+/* A format that has the flaws: 8 and 9 are of wrapped keys, 6 and 7 of names. */
+static inline unsigned any_format(unsigned flaws)
+{
+    if (HAS(flaws, 8) || HAS(flaws, 9))
+        return WRAPPED_KEY;
+    return formats[HAS(flaws, 6) || HAS(flaws, 7) ? 1 + below(2) : below(3)];
+}
+
+static inline struct loading any_loading(unsigned flaws)
+{
+    unsigned format = any_format(flaws), index = 1 + (unsigned)below(2);
+    struct table *t = any_rows(format == REFERENCE ? REFERENCE_LEAST : 1);
+    struct row *r = any_row(t, HAS(flaws, 6));
+    int by_name = format != PLAIN_KEY && one_in(2), in_part = one_in(3);
+    struct bytes name = HAS(flaws, 4) && by_name ? long_name(r->name) : r->name, wrapped = wrapped_by(r), key;
+    struct loading l;
+    if (HAS(flaws, 9) && one_in(4))
+        r->key = bit_changed(r->key);
+    else if (HAS(flaws, 9))
+        wrapped = bit_changed(wrapped);
+    if (HAS(flaws, 8))
+        wrapped = sized(wrapped, another_length(PAGE_WRAPPED));
+    key = format == REFERENCE ? name : some(PAGE_KEY);
+    if (format == WRAPPED_KEY)
+        key = wrapped_part(1 + (unsigned)below(2), name, wrapped);
+    if (HAS(flaws, 2) && in_part)
+        key = bad_part(format, key);
+    if (HAS(flaws, 4) && !by_name)
+        l.page = page_as_long(index, format, key, PAGE_MAX + 1 + (one_in(2) ? 0 : below(100)));
+    else if (one_in(50) && key.len < 1000)
+        l.page = page_as_long(index, format, key, PAGE_MAX - below(2));
+    else
+        l.page = page_of(index, format, key, any_list(100, one_in(2) ? 0 : (unsigned)below(8)));
+    if (HAS(flaws, 3))
+        l.page = page_not_permitted(l.page);
+    if (HAS(flaws, 2) && !in_part)
+        l.page = bad_page(l.page);
+    r->use = format == REFERENCE ? index : 3;
+    if (HAS(flaws, 7))
+        r->use = 1 + (r->use + (unsigned)below(2)) % 3;
+    l.table = any_table(t, HAS(flaws, 1));
+    return l;
+}
+
+static inline void any_page_read(void)
+{
+    struct bytes page = any_loading(FLAWS(2, 3, 4)).page;
+    write_made("page_read", &page, 1, NO_OUTPUT);
+}
+
+static inline void any_page_load(void)
+{
+    unsigned flaws = FLAWS(1, 2, 3, 4, 5, 6, 7, 8, 9);
+    struct loading l = any_loading(flaws);
+    struct bytes w[] = { l.table, l.page };
+    write_made("page_load", w, 2, any_room(PAGE_KEY, HAS(flaws, 5)));
+}
+
+#endif
