@@ -7,6 +7,11 @@
 
 enum { GCM, CCM };
 
+/* The bytes of a record before its ciphertext: header, a name of 32 bytes and the IV. All but the IV are associated data. */
+#define FRONT 68
+#define DATA 56
+
+/* Before out, and when opening before text, there are FRONT bytes of room, which only the unit uses: its record begins there. */
 struct message {
     const uint8_t *key, *iv, *aad;
     size_t aad_len;
