@@ -1,0 +1,191 @@
+-- Digits and the bytes they make: each digit's value, and strings of them one pair at a time.
+-- Assumes nothing.
+use mathlib.Core.Path.{_≡_, refl, sym, ap, ap₂, _∙_}
+use mathlib.Core.Bool.{Bool, true, false}
+use mathlib.Core.List.{List, [], _∷_, _++_}
+use Prim.Native.Nat.{ℕ, zero, suc, _+_, _-_, _*_, _/_, _%_, _≤_, _<_}
+use native.Mathlib.Numerals.{add-one}
+use native.Mathlib.Omega.{arith}
+use lib.Dec.{eqb, leb, ltb}
+use lib.ListN.{length, getD, set, take, drop, length-append}
+use lib.Seq.{take-suc, drop-cons, take-all, set-at, append-snoc, length-take-le}
+use borrow.Author.Tests.{eqb-true, leb-true, ltb-true, ltb-false, lt-ltb, le-ltb, le-leb, lt-leb}
+use Rattle.octets.specs.Lent.{over}
+use Rattle.octets.specs.Tests.{all}
+use Rattle.octets.proofs.Tests.{and-left, and-right}
+use Rattle.octets.proofs.Lent.{over-fits}
+use Rattle.wording.specs.Hex.{between, isDigit, digitValue, digitOf, isHex, byteOf, bytesOf, digitsOf, hexRead, hexWrite}
+
+-- ---- one digit
+
+module _ (low high c : ℕ) (h : between low high c ≡ true) where
+  pub between-low : low ≤ c
+  between-low = leb-true low c (and-left (leb low c) (leb c high) h)
+
+  pub between-high : c ≤ high
+  between-high = leb-true c high (and-right (leb low c) (leb c high) h)
+
+module _ (c : ℕ) where
+  pub value-decimal : between 48 57 c ≡ true → digitValue c ≡ c - 48
+  unfolding digitValue
+  value-decimal h = rw h
+
+  pub value-lower : between 48 57 c ≡ false → between 97 102 c ≡ true → digitValue c ≡ c - 87
+  unfolding digitValue
+  value-lower h₁ h₂ = rw (h₁, h₂)
+
+  pub value-upper : between 48 57 c ≡ false → between 97 102 c ≡ false → between 65 70 c ≡ true → digitValue c ≡ c - 55
+  unfolding digitValue
+  value-upper h₁ h₂ h₃ = rw (h₁, h₂, h₃)
+
+  pub value-none : between 48 57 c ≡ false → between 97 102 c ≡ false → between 65 70 c ≡ false → digitValue c ≡ 0
+  unfolding digitValue
+  value-none h₁ h₂ h₃ = rw (h₁, h₂, h₃)
+
+pub digit-low : (d : ℕ) → d < 10 → digitOf d ≡ 48 + d
+unfolding digitOf
+digit-low d h = rw (lt-ltb d 10 h)
+
+pub digit-high : (d : ℕ) → 10 ≤ d → digitOf d ≡ 87 + d
+unfolding digitOf
+digit-high d h = rw (le-ltb d 10 h)
+
+-- a digit that was written counts what it was written for
+
+between-right : (low high c : ℕ) → low ≤ c → c ≤ high → between low high c ≡ true
+between-right low high c l h = rw (le-leb low c l, le-leb c high h)
+
+module _ (d : ℕ) (small : d < 16) where
+  lower : 10 ≤ d → (between 48 57 (87 + d) ≡ false) × (between 97 102 (87 + d) ≡ true)
+  lower h = (rw (lt-leb (87 + d) 57 (omega arith), le-leb 48 (87 + d) (omega arith)), between-right 97 102 (87 + d) (omega arith) (omega arith))
+
+  counts : (t : Bool) → ltb d 10 ≡ t → (isDigit (digitOf d) ≡ true) × (digitValue (digitOf d) ≡ d)
+  unfolding isDigit
+  counts true h =
+      let low = between-right 48 57 (48 + d) (omega arith) (omega (arith, ltb-true d 10 h)) in
+      rw (digit-low d (ltb-true d 10 h)) (rw low, value-decimal (48 + d) low ∙ omega arith)
+  counts false h =
+      let range = lower (ltb-false d 10 h) in
+      rw (digit-high d (ltb-false d 10 h)) (rw (range .0, range .1), value-lower (87 + d) (range .0) (range .1) ∙ omega arith)
+
+  pub digit-is : isDigit (digitOf d) ≡ true
+  digit-is = counts (ltb d 10) refl .0
+
+  pub digit-counts : digitValue (digitOf d) ≡ d
+  digit-counts = counts (ltb d 10) refl .1
+
+-- ---- one store more into a lent output: the p elements before it are written, and the rest is as it was
+
+pub more-written : (p d : List ℕ) (i v : ℕ) → length p ≡ i → i < length d → set (p ++ drop i d) i v ≡ (p ++ v ∷ []) ++ drop (i + 1) d
+more-written p d i v e h =
+    rw (add-one, drop-cons d i 0 h) (set-at p (getD d i 0) (drop (suc i) d) v i e ∙ sym (append-snoc p v (drop (suc i) d)))
+
+-- ---- bytes
+
+double : (k : ℕ) → 2 * suc k ≡ suc (suc (2 * k))
+double k = omega arith
+
+pub length-bytesOf : (k : ℕ) (s : List ℕ) → length s ≡ 2 * k → length (bytesOf s) ≡ k
+unfolding bytesOf
+length-bytesOf zero [] e = refl
+length-bytesOf (suc k) [] e = absurd (omega arith)
+length-bytesOf k (a ∷ []) e = absurd (omega arith)
+length-bytesOf zero (a ∷ b ∷ s) e = absurd (omega arith)
+length-bytesOf (suc k) (a ∷ b ∷ s) e = ap suc (length-bytesOf k s (omega arith))
+
+bytesOf-append : (k : ℕ) (s t : List ℕ) → length s ≡ 2 * k → bytesOf (s ++ t) ≡ bytesOf s ++ bytesOf t
+unfolding bytesOf
+bytesOf-append k [] t e = refl
+bytesOf-append k (a ∷ []) t e = absurd (omega arith)
+bytesOf-append zero (a ∷ b ∷ s) t e = absurd (omega arith)
+bytesOf-append (suc k) (a ∷ b ∷ s) t e = ap (λ (l : List ℕ). byteOf a b ∷ l) (bytesOf-append k s t (omega arith))
+
+take-two : (s : List ℕ) (n : ℕ) → n + 1 < length s → take (n + 2) s ≡ take n s ++ getD s n 0 ∷ getD s (n + 1) 0 ∷ []
+take-two s n h =
+    let two : n + 2 ≡ suc (n + 1) = omega arith in
+    let one : n + 1 ≡ suc n = omega arith in
+    let front : take (n + 1) s ≡ take n s ++ getD s n 0 ∷ [] = rw one (take-suc s n 0 (omega arith)) in
+    rw two (take-suc s (n + 1) 0 h ∙ ap (λ (l : List ℕ). l ++ getD s (n + 1) 0 ∷ []) front
+    ∙ append-snoc (take n s) (getD s n 0) (getD s (n + 1) 0 ∷ []))
+
+module _ (word out : List ℕ) (i : ℕ) where
+  pub bytes-turn : i < length word / 2 → i < length out
+      → set (bytesOf (take (2 * i) word) ++ drop i out) i (byteOf (getD word (2 * i) 0) (getD word (2 * i + 1) 0))
+      ≡ bytesOf (take (2 * (i + 1)) word) ++ drop (i + 1) out
+  unfolding bytesOf
+  bytes-turn h r =
+      let next : 2 * (i + 1) ≡ 2 * i + 2 = omega arith in
+      let size : length (take (2 * i) word) ≡ 2 * i = length-take-le (2 * i) word (omega arith) in
+      more-written (bytesOf (take (2 * i) word)) out i _ (length-bytesOf i (take (2 * i) word) size) r
+      ∙ ap (λ (l : List ℕ). l ++ drop (i + 1) out)
+      (sym (bytesOf-append i (take (2 * i) word) _ size) ∙ ap bytesOf (sym (ap (λ (n : ℕ). take n word) next ∙ take-two word (2 * i) (omega arith))))
+
+  pub bytes-end : length word % 2 ≡ 0 → i ≡ length word / 2 → i ≤ length out → bytesOf (take (2 * i) word) ++ drop i out ≡ over (bytesOf word) out
+  bytes-end even e room =
+      let whole : take (2 * i) word ≡ word = take-all (2 * i) word (omega arith) in
+      let size : length (bytesOf word) ≡ i = length-bytesOf i word (omega arith) in
+      ap (λ (l : List ℕ). bytesOf l ++ drop i out) whole ∙ sym (over-fits (bytesOf word) out (omega arith) ∙ ap (λ (n : ℕ). bytesOf word ++ drop n out) size)
+
+-- ---- digits
+
+pub length-digitsOf : (s : List ℕ) → length (digitsOf s) ≡ 2 * length s
+unfolding digitsOf
+length-digitsOf [] = refl
+length-digitsOf (b ∷ s) = omega (arith, length-digitsOf s)
+
+digitsOf-append : (s t : List ℕ) → digitsOf (s ++ t) ≡ digitsOf s ++ digitsOf t
+unfolding digitsOf
+digitsOf-append [] t = refl
+digitsOf-append (b ∷ s) t = ap (λ (l : List ℕ). digitOf (b / 16) ∷ digitOf (b % 16) ∷ l) (digitsOf-append s t)
+
+module _ (s out : List ℕ) (i : ℕ) where
+  pub digits-turn : i < length s → 2 * length s ≤ length out
+      → set (set (digitsOf (take i s) ++ drop (2 * i) out) (2 * i) (digitOf (getD s i 0 / 16))) (2 * i + 1) (digitOf (getD s i 0 % 16))
+      ≡ digitsOf (take (i + 1) s) ++ drop (2 * (i + 1)) out
+  unfolding digitsOf
+  digits-turn h r =
+      let p : List ℕ = digitsOf (take i s) in
+      let high : ℕ = digitOf (getD s i 0 / 16) in
+      let low : ℕ = digitOf (getD s i 0 % 16) in
+      let more : take (i + 1) s ≡ take i s ++ getD s i 0 ∷ [] = rw add-one (take-suc s i 0 h) in
+      let next : 2 * i + 1 + 1 ≡ 2 * (i + 1) = omega arith in
+      let size : length p ≡ 2 * i = length-digitsOf (take i s) ∙ ap (λ (n : ℕ). 2 * n) (length-take-le i s (omega arith)) in
+      ap (λ (l : List ℕ). set l (2 * i + 1) low) (more-written p out (2 * i) high size (omega arith))
+      ∙ more-written (p ++ high ∷ []) out (2 * i + 1) low (length-append p (high ∷ []) ∙ ap (λ (n : ℕ). n + 1) size) (omega arith)
+      ∙ ap₂ (λ (l : List ℕ) (n : ℕ). l ++ drop n out)
+      (append-snoc p high (low ∷ []) ∙ sym (digitsOf-append (take i s) (getD s i 0 ∷ [])) ∙ ap digitsOf (sym more)) next
+
+  pub digits-end : i ≡ length s → 2 * length s ≤ length out → digitsOf (take i s) ++ drop (2 * i) out ≡ over (digitsOf s) out
+  digits-end e room =
+      let whole : take i s ≡ s = take-all i s (omega arith) in
+      let size : length (digitsOf s) ≡ 2 * i = length-digitsOf s ∙ ap (λ (n : ℕ). 2 * n) (sym e) in
+      ap (λ (l : List ℕ). digitsOf l ++ drop (2 * i) out) whole
+      ∙ sym (over-fits (digitsOf s) out (omega arith) ∙ ap (λ (n : ℕ). digitsOf s ++ drop n out) size)
+
+-- ---- the calls
+
+module _ (word out : List ℕ) where
+  pub read-no-hex : isHex word ≡ false → hexRead word out ≡ (2, out)
+  unfolding hexRead
+  read-no-hex e = rw e
+
+  pub read-no-room : isHex word ≡ true → length out < length word / 2 → hexRead word out ≡ (5, out)
+  unfolding hexRead
+  read-no-room e h = rw (e, lt-ltb (length out) (length word / 2) h)
+
+  pub read-done : isHex word ≡ true → length word / 2 ≤ length out → hexRead word out ≡ (0, over (bytesOf word) out)
+  unfolding hexRead
+  read-done e h = rw (e, le-ltb (length out) (length word / 2) h)
+
+pub hex-even : (word : List ℕ) → isHex word ≡ true → length word % 2 ≡ 0
+unfolding isHex
+hex-even word e = eqb-true (length word % 2) 0 (and-left (eqb (length word % 2) 0) (all isDigit word) e)
+
+module _ (s out : List ℕ) where
+  pub write-no-room : length out < 2 * length s → hexWrite s out ≡ (5, out)
+  unfolding hexWrite
+  write-no-room h = rw (lt-ltb (length out) (2 * length s) h)
+
+  pub write-done : 2 * length s ≤ length out → hexWrite s out ≡ (0, over (digitsOf s) out)
+  unfolding hexWrite
+  write-done h = rw (le-ltb (length out) (2 * length s) h)

@@ -1,0 +1,54 @@
+-- The laws of specs/Laws.antt.
+-- Assumes nothing.
+use mathlib.Core.Path.{_≡_, refl, ap, ap₂, _∙_}
+use mathlib.Core.Bool.{true}
+use mathlib.Core.List.{List, [], _∷_}
+use Prim.Native.Nat.{ℕ, _/_, _%_, _<_}
+use native.Mathlib.Omega.{arith}
+use borrow.Author.Tests.{eq-eqb}
+use lib.ListN.{length}
+use Rattle.octets.specs.Bytes.{Bytes}
+use Rattle.octets.specs.Lent.{over}
+use Rattle.octets.specs.Tests.{all}
+use Rattle.octets.proofs.Bytes.{bytes-head, bytes-tail}
+use Rattle.octets.proofs.Values.{cons-equal}
+use Rattle.octets.proofs.Lent.{one-answer}
+use Rattle.wording.specs.Hex.{isDigit, digitOf, isHex, byteOf, bytesOf, digitsOf}
+use Rattle.wording.specs.Laws.{DigitsLength, ThereAndBack, ReadUnique, WriteUnique}
+use Rattle.wording.proofs.Digits.{digit-is, digit-counts, length-digitsOf, read-done}
+
+pub digits-length : DigitsLength
+digits-length = length-digitsOf
+
+-- ---- there and back
+
+byte-back : (b : ℕ) → b < 256 → byteOf (digitOf (b / 16)) (digitOf (b % 16)) ≡ b
+byte-back b h = rw (digit-counts (b / 16) (omega arith), digit-counts (b % 16) (omega arith)) (omega arith)
+
+bytes-back : {s : List ℕ} → Bytes s → bytesOf (digitsOf s) ≡ s
+unfolding bytesOf digitsOf
+bytes-back {s = []} h = refl
+bytes-back {s = b ∷ s} h = cons-equal (byte-back b (bytes-head h)) (bytes-back (bytes-tail h))
+
+digits-all : {s : List ℕ} → Bytes s → all isDigit (digitsOf s) ≡ true
+unfolding all digitsOf
+digits-all {s = []} h = refl
+digits-all {s = b ∷ s} h =
+    let small : b < 256 = bytes-head h in
+    rw (digit-is (b / 16) (omega arith), digit-is (b % 16) (omega arith)) (digits-all (bytes-tail h))
+
+digits-hex : {s : List ℕ} → Bytes s → isHex (digitsOf s) ≡ true
+unfolding isHex
+digits-hex {s} h = rw (eq-eqb (length (digitsOf s) % 2) 0 (omega (arith, length-digitsOf s)), digits-all h)
+
+pub there-and-back : ThereAndBack
+there-and-back s out h room =
+    read-done (digitsOf s) out (digits-hex h) (omega (arith, length-digitsOf s)) ∙ ap (λ (t : List ℕ). (0, over t out)) (bytes-back h)
+
+-- ---- one answer
+
+pub read-unique : ReadUnique
+read-unique word out a b p q = one-answer p q
+
+pub write-unique : WriteUnique
+write-unique s out a b p q = one-answer p q

@@ -1,0 +1,69 @@
+-- `wording::hex::fill_bytes` meets its contract: after i turns the bytes of the first i pairs are written.
+-- Assumes nothing.
+use mathlib.Core.Path.{_≡_, refl, _∙_}
+use mathlib.Core.List.{_++_}
+use Prim.Native.Nat.{ℕ, _-_, _*_, _/_, _≤_}
+use native.Mathlib.Omega.{arith}
+use borrow.Author.Needs.{needs}
+use lib.ListN.{length, take, drop, length-set}
+use Rattle.wording.specs.Hex.{bytesOf}
+use Rattle.wording.proofs.Digits.{bytes-turn, bytes-end}
+use Rattle.wording.proofs.hex.fill_bytes.Statement.{statement}
+use Rattle.wording.proofs.hex.fill_bytes.Tie as tie
+
+abbrev Inv-loop : tie.InvT-loop
+Inv-loop word out₀ i₀ out i = (i ≤ length word / 2) × (length out ≡ length out₀) × (out ≡ bytesOf (take (2 * i) word) ++ drop i out₀)
+
+abbrev μ-loop : tie.MeasureT-loop
+μ-loop word out₀ i₀ out i = length word / 2 - i
+
+loop-holds : tie.Need-loop-holds Inv-loop μ-loop
+unfolding bytesOf
+loop-holds c = (omega arith, refl, refl)
+
+slice-write-out : tie.Need-slice-write-out Inv-loop μ-loop
+slice-write-out c =
+    let l = c .before .before .before .before in
+    omega (arith, l .before .before .before .pre .1, l .loop .inv .1, c .before .before .before .loop-test .taken)
+
+loop-again : tie.Need-loop-again Inv-loop μ-loop
+loop-again c =
+    let t = c .before .before .before in
+    let l = t .before in
+    let s = l .before .before .before in (
+      omega arith,
+      simp length-set (l .loop .inv .1),
+      rw (l .loop .inv .2, c .byte-of .ensures)
+          (bytes-turn (s .args .word .now) (s .args .out .now) (l .loop .i) (t .loop-test .taken) (omega (arith, s .pre .1, t .loop-test .taken))),
+    )
+
+same-length : tie.Need-same-length Inv-loop μ-loop
+same-length c = c .before .loop .inv .1
+
+returns : tie.Need-returns Inv-loop μ-loop
+returns c =
+    let l = c .before in
+    let s = l .before .before .before in
+    l .loop .inv .2
+    ∙ bytes-end (s .args .word .now) (s .args .out .now) (l .loop .i) (s .pre .0) (omega (arith, l .loop .inv .0, c .loop-test .left))
+    (omega (arith, s .pre .1, l .loop .inv .0))
+
+pub fill-bytes-spec : {M : Type 1} → statement M
+fill-bytes-spec =
+    tie.close
+    (tie.spec
+    Inv-loop
+    μ-loop
+    loop-holds
+    (λ c. omega arith)
+    (λ c. omega arith)
+    (λ c. omega arith)
+    (λ c. omega arith)
+    (λ c. omega arith)
+    (λ c κs. search needs)
+    slice-write-out
+    (λ c. omega arith)
+    (λ c. omega arith)
+    loop-again
+    same-length
+    returns)

@@ -1,0 +1,2 @@
+// What the programs read and write as text.
+pub mod hex;
