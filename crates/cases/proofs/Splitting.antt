@@ -7,7 +7,7 @@ use Prim.Native.Nat.{ℕ, zero, suc, _+_, _-_, _≤_, _<_}
 use native.Mathlib.Numerals.{add-one}
 use native.Mathlib.Omega.{arith}
 use lib.Dec.{eqb}
-use lib.ListN.{length, getD, take, drop, drop-of-length-le}
+use lib.ListN.{length, getD, take, drop, length-take, drop-of-length-le}
 use lib.Seq.{drop-cons}
 use borrow.Author.Tests.{eq-eqb, ne-eqb}
 use Rattle.octets.specs.Lent.{when}
@@ -39,6 +39,9 @@ upTo-front c (x ∷ s) = go (eqb x c) (upTo-front c s)
     go : (t : Bool) → take (length (upTo c s)) s ≡ upTo c s → take (length (when t [] (x ∷ upTo c s))) (x ∷ s) ≡ when t [] (x ∷ upTo c s)
     go true ih = refl
     go false ih = ap (λ (l : List ℕ). x ∷ l) ih
+
+pub upTo-short : (c : ℕ) (s : List ℕ) → length (upTo c s) ≤ length s
+upTo-short c s = omega (arith, ap length (upTo-front c s), length-take (length (upTo c s)) s)
 
 -- ---- after each c
 
