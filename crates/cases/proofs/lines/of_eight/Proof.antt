@@ -1,10 +1,15 @@
--- `cases::lines::of_eight` meets its contract: each test, and what the call ensures.
+-- `cases::lines::of_eight` meets its contract: each answer by the tests before it.
 -- Assumes nothing.
-use mathlib.Core.Path.{sym, _∙_}
+use mathlib.Core.Path.{_≡_, sym, _∙_}
+use mathlib.Core.Bool.{false}
 use borrow.Author.Needs.{needs}
-use Rattle.cases.specs.Line.{ofEight}
+use denote.Ref.{now}
+use Rattle.cases.specs.Line.{ccmWord, says, ofEight}
 use Rattle.cases.proofs.lines.of_eight.Statement.{statement}
 use Rattle.cases.proofs.lines.of_eight.Tie as tie
+
+no-ccm : (c : tie.Else1) → says (now (c .before .before .before .before .args .line)) ccmWord ≡ false
+no-ccm c = sym (c .before .is-word .ensures) ∙ c .if1 .left
 
 returns : tie.Need-returns
 unfolding ofEight
@@ -23,8 +28,7 @@ returns-2 : tie.Need-returns-2
 unfolding ofEight
 returns-2 c =
     let e = c .before in
-    rw (sym (e .before .is-word .ensures) ∙ e .if1 .left)
-    (c .broken-case .ensures)
+    rw (no-ccm e) (c .broken-case .ensures)
 
 pub of-eight-spec : {M : Type 1} → statement M
 of-eight-spec =

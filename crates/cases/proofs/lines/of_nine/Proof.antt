@@ -1,10 +1,18 @@
--- `cases::lines::of_nine` meets its contract: each test, and what the call ensures.
+-- `cases::lines::of_nine` meets its contract: each answer by the tests before it.
 -- Assumes nothing.
-use mathlib.Core.Path.{sym, _∙_}
+use mathlib.Core.Path.{_≡_, sym, _∙_}
+use mathlib.Core.Bool.{false}
 use borrow.Author.Needs.{needs}
-use Rattle.cases.specs.Line.{ofNine}
+use denote.Ref.{now}
+use Rattle.cases.specs.Line.{gcmName, ccmName, named, ofNine}
 use Rattle.cases.proofs.lines.of_nine.Statement.{statement}
 use Rattle.cases.proofs.lines.of_nine.Tie as tie
+
+no-gcm : (c : tie.Else1) → named (now (c .before .before .before .before .args .line)) gcmName ≡ false
+no-gcm c = sym (c .before .name-begins .ensures) ∙ c .if1 .left
+
+no-ccm : (c : tie.Else2) → named (now (c .before .before .before .before .before .before .before .args .line)) ccmName ≡ false
+no-ccm c = sym (c .before .name-begins2 .ensures) ∙ c .if2 .left
 
 returns : tie.Need-returns
 unfolding ofNine
@@ -17,21 +25,14 @@ returns-2 : tie.Need-returns-2
 unfolding ofNine
 returns-2 c =
     let t = c .before in
-    rw (
-      sym (t .before .before .before .before .name-begins .ensures) ∙ t .before .before .before .if1 .left,
-      sym (t .before .name-begins2 .ensures) ∙ t .if2 .taken,
-    )
+    rw (no-gcm (t .before .before .before), sym (t .before .name-begins2 .ensures) ∙ t .if2 .taken)
     (c .of-mode2 .ensures)
 
 returns-3 : tie.Need-returns-3
 unfolding ofNine
 returns-3 c =
     let e = c .before in
-    rw (
-      sym (e .before .before .before .before .name-begins .ensures) ∙ e .before .before .before .if1 .left,
-      sym (e .before .name-begins2 .ensures) ∙ e .if2 .left,
-    )
-    (c .broken-case .ensures)
+    rw (no-gcm (e .before .before .before), no-ccm e) (c .broken-case .ensures)
 
 pub of-nine-spec : {M : Type 1} → statement M
 of-nine-spec =
