@@ -2,10 +2,9 @@
 use octets::strings::equal;
 use octets::strings::part;
 ghost use mathlib.Core.Path.{_≡_};
-ghost use mathlib.Core.List.{[]};
 ghost use Prim.Native.Nat.{_≤_};
 ghost use lib.Dec.{eqb};
-ghost use lib.ListN.{length, getD, take, drop};
+ghost use lib.ListN.{length, drop};
 ghost use Rattle.octets.specs.Lent.{when};
 ghost use Rattle.octets.specs.Same.{same};
 ghost use Rattle.octets.specs.Tests.{all};
