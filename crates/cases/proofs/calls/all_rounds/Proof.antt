@@ -1,0 +1,74 @@
+-- `cases::calls::all_rounds` meets its contract: the rounds of the whole are those that are left, of the block as it is now.
+-- Assumes nothing.
+use mathlib.Core.Path.{_≡_, refl, ap, _∙_}
+use Prim.Native.Nat.{_-_, _≤_}
+use native.Mathlib.Omega.{arith}
+use borrow.Author.Needs.{needs}
+use lib.ListN.{length}
+use Rattle.cases.specs.Case.{rounds, blockBy}
+use Rattle.cases.proofs.Ran.{rounds-turn, rounds-stop, rounds-end}
+use Rattle.cases.proofs.calls.all_rounds.Statement.{statement}
+use Rattle.cases.proofs.calls.all_rounds.Tie as tie
+
+abbrev Inv-loop : tie.InvT-loop
+Inv-loop there times key block₀ i₀ block i =
+    (i ≤ times) × (length block ≡ length block₀) × (rounds (blockBy there) times key block₀ ≡ rounds (blockBy there) (times - i) key block)
+
+abbrev μ-loop : tie.MeasureT-loop
+μ-loop there times key block₀ i₀ block i = times - i
+
+loop-holds : tie.Need-loop-holds Inv-loop μ-loop
+loop-holds c =
+    let s = c .before .before .args in
+    (omega arith, refl, ap (λ n. rounds (blockBy (s .there)) n (s .key .now) (s .block .now)) (omega arith))
+
+same-length : tie.Need-same-length Inv-loop μ-loop
+same-length c =
+    let r = c .before .before .before in
+    omega (arith, r .one-round .kept .1 .1 .0, r .before .before .before .loop .inv .1)
+
+returns : tie.Need-returns Inv-loop μ-loop
+returns c =
+    let r = c .before .before .before in
+    let t = r .before .before in
+    let l = t .before in
+    let s = l .before .before .before .args in
+    l .loop .inv .2
+    ∙ rounds-stop (blockBy (s .there)) (s .key .now) (l .loop .block) _ _ (r .one-round .ensures) (s .times) (l .loop .i) (t .loop-test .taken) (c .if1 .taken)
+
+loop-again : tie.Need-loop-again Inv-loop μ-loop
+loop-again c =
+    let r = c .before .before .before in
+    let t = r .before .before in
+    let l = t .before in
+    let s = l .before .before .before .args in (
+      omega arith,
+      omega (arith, r .one-round .kept .1 .1 .0, l .loop .inv .1),
+      l .loop .inv .2
+          ∙ rounds-turn (blockBy (s .there)) (s .key .now) (l .loop .block) _ _ (r .one-round .ensures) (s .times) (l .loop .i) (t .loop-test .taken) (c .if1 .left),
+    )
+
+same-length-2 : tie.Need-same-length-2 Inv-loop μ-loop
+same-length-2 c = c .before .loop .inv .1
+
+returns-2 : tie.Need-returns-2 Inv-loop μ-loop
+returns-2 c =
+    let l = c .before in
+    let s = l .before .before .before .args in
+    l .loop .inv .2 ∙ rounds-end (blockBy (s .there)) (s .key .now) _ (s .times) (l .loop .i) (c .loop-test .left)
+
+pub all-rounds-spec : {M : Type 1} → statement M
+all-rounds-spec =
+    tie.close
+    (tie.spec
+    Inv-loop
+    μ-loop
+    loop-holds
+    (λ c κs. search needs)
+    same-length
+    returns
+    (λ c. search needs)
+    (λ c. search needs)
+    loop-again
+    same-length-2
+    returns-2)

@@ -1,0 +1,89 @@
+-- Which case a line is: the table of tests/vectors/README.md.
+-- Assumes nothing.
+use Prim.Native.Nat.{ℕ}
+use mathlib.Core.Bool.{Bool, true, false}
+use mathlib.Core.List.{List, [], _∷_}
+use lib.Dec.{eqb}
+use lib.ListN.{length, getD}
+use Rattle.octets.specs.Lent.{when}
+use Rattle.octets.specs.Same.{same}
+use Rattle.octets.specs.Tests.{all}
+use Rattle.cases.specs.Words.{wordsOf, wordAt, someBytes, begins}
+use Rattle.cases.specs.Case.{Outcome, nothing, malformed, blockCase, encryptCase, decryptCase, wrapCase, unwrapCase}
+
+-- ---- words, in ASCII
+
+-- `E` and `D`
+abbrev pub there : List ℕ
+there = 69 ∷ []
+
+abbrev pub back : List ℕ
+back = 68 ∷ []
+
+-- `ccm`
+abbrev pub ccmWord : List ℕ
+ccmWord = 99 ∷ 99 ∷ 109 ∷ []
+
+-- `kw_unwrap`
+abbrev pub unwrapWord : List ℕ
+unwrapWord = 107 ∷ 119 ∷ 95 ∷ 117 ∷ 110 ∷ 119 ∷ 114 ∷ 97 ∷ 112 ∷ []
+
+-- how names begin: `gcm`, `VNT`, `ECBMCT`
+abbrev pub gcmName : List ℕ
+gcmName = 103 ∷ 99 ∷ 109 ∷ []
+
+abbrev pub ccmName : List ℕ
+ccmName = 86 ∷ 78 ∷ 84 ∷ []
+
+abbrev pub monteCarlo : List ℕ
+monteCarlo = 69 ∷ 67 ∷ 66 ∷ 77 ∷ 67 ∷ 84 ∷ []
+
+-- ---- the kinds of line, by the number of words
+
+module _ (line : List ℕ) where
+  -- the second word is this one
+  abbrev pub says : List ℕ → Bool
+  says w = same (wordAt line 1) w
+
+  abbrev pub named : List ℕ → Bool
+  named front = begins front (wordAt line 0)
+
+  -- the Monte Carlo test: "each output the next input"
+  abbrev pub times : ℕ
+  times = when (named monteCarlo) 1000 1
+
+  -- NAME E|D key in out; NAME kw_unwrap number kek wrapped
+  unfoldable pub ofFive : Outcome
+  ofFive =
+      when (says there) (blockCase true times (wordAt line 2) (wordAt line 3))
+      (when (says back) (blockCase false times (wordAt line 2) (wordAt line 3))
+      (when (says unwrapWord) (unwrapCase (wordAt line 3) (wordAt line 4)) malformed))
+
+  -- NAME E|D number kek key wrapped
+  unfoldable pub ofSix : Outcome
+  ofSix =
+      when (says there) (wrapCase (wordAt line 3) (wordAt line 4))
+      (when (says back) (unwrapCase (wordAt line 3) (wordAt line 5)) malformed)
+
+  -- NAME ccm key iv aad plain cipher tag
+  unfoldable pub ofEight : Outcome
+  ofEight = when (says ccmWord) (encryptCase false (wordAt line 2) (wordAt line 3) (wordAt line 4) (wordAt line 5)) malformed
+
+  -- NAME E|D number key iv aad plain cipher tag
+  abbrev pub ofMode : Bool → Outcome
+  ofMode isGcm =
+      when (says there) (encryptCase isGcm (wordAt line 3) (wordAt line 4) (wordAt line 5) (wordAt line 6))
+      (when (says back) (decryptCase isGcm (wordAt line 3) (wordAt line 4) (wordAt line 5) (wordAt line 7) (wordAt line 8)) malformed)
+
+  unfoldable pub ofNine : Outcome
+  ofNine = when (named gcmName) (ofMode true) (when (named ccmName) (ofMode false) malformed)
+
+  unfoldable pub byCount : ℕ → Outcome
+  byCount n = when (eqb n 5) ofFive (when (eqb n 6) ofSix (when (eqb n 8) ofEight (when (eqb n 9) ofNine malformed)))
+
+  -- an empty line, or one that begins with `#`
+  abbrev pub isComment : Bool
+  isComment = eqb (getD line 0 35) 35
+
+  unfoldable pub caseOutcome : Outcome
+  caseOutcome = when isComment nothing (when (all someBytes (wordsOf line)) (byCount (length (wordsOf line))) malformed)
