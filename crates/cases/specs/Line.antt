@@ -8,35 +8,33 @@ use lib.ListN.{length, getD}
 use Rattle.octets.specs.Lent.{when}
 use Rattle.octets.specs.Same.{same}
 use Rattle.octets.specs.Tests.{all}
+use Rattle.wording.specs.Meaning.{ascii}
 use Rattle.cases.specs.Words.{wordsOf, wordAt, someBytes, begins}
 use Rattle.cases.specs.Case.{Outcome, nothing, malformed, blockCase, encryptCase, decryptCase, wrapCase, unwrapCase}
 
--- ---- words, in ASCII
+-- ---- words, in ASCII: encryption and decryption, or wrapping and unwrapping
 
--- `E` and `D`
 abbrev pub there : List ℕ
-there = 69 ∷ []
+there = ascii "E"
 
 abbrev pub back : List ℕ
-back = 68 ∷ []
+back = ascii "D"
 
--- `ccm`
 abbrev pub ccmWord : List ℕ
-ccmWord = 99 ∷ 99 ∷ 109 ∷ []
+ccmWord = ascii "ccm"
 
--- `kw_unwrap`
 abbrev pub unwrapWord : List ℕ
-unwrapWord = 107 ∷ 119 ∷ 95 ∷ 117 ∷ 110 ∷ 119 ∷ 114 ∷ 97 ∷ 112 ∷ []
+unwrapWord = ascii "kw_unwrap"
 
--- how names begin: `gcm`, `VNT`, `ECBMCT`
+-- how names begin
 abbrev pub gcmName : List ℕ
-gcmName = 103 ∷ 99 ∷ 109 ∷ []
+gcmName = ascii "gcm"
 
 abbrev pub ccmName : List ℕ
-ccmName = 86 ∷ 78 ∷ 84 ∷ []
+ccmName = ascii "VNT"
 
 abbrev pub monteCarlo : List ℕ
-monteCarlo = 69 ∷ 67 ∷ 66 ∷ 77 ∷ 67 ∷ 84 ∷ []
+monteCarlo = ascii "ECBMCT"
 
 -- ---- the kinds of line, by the number of words
 
