@@ -1,7 +1,6 @@
 -- Columns as words, and states as halves, there and back; and the columns of the rounds are bytes where the key is.
 -- Assumes nothing.
 use mathlib.Core.Path.{_≡_, refl, ap, ap₂, sym, _∙_}
-use mathlib.Core.List.{List, [], _∷_}
 use Prim.Native.Nat.{ℕ, _+_, _*_, _/_, _%_, _^_, _<_}
 use native.Mathlib.Nat.{mod-lt}
 use native.Mathlib.Omega.{arith}
@@ -11,10 +10,10 @@ use Rattle.octets.specs.Bytes.{Bytes}
 use Rattle.octets.proofs.Bytes.{bytes-nil, bytes-cons, bytes-append}
 use Rattle.octets.proofs.Xor.{xor-byte}
 use lib.Bits.{bitXor}
-use Rattle.aes_field.specs.Words.{Column, columnOf}
+use Rattle.aes_field.specs.Words.{Column}
 use Rattle.aes.specs.State.{State, column, stateFrom}
 use Rattle.aes.specs.Cipher.{addColumn, addRoundKey}
-use Rattle.aes_fast.specs.ByTables.{Tables, columnFrom, mixedBy, roundBy}
+use Rattle.aes_fast.specs.ByTables.{Tables, columnFrom, mixedBy}
 use Rattle.aes_fast.specs.Right.{wordFrom}
 use Rattle.aes_fast.specs.Halves.{columnsOf, halvesBlock, halvesFrom}
 use Rattle.aes_fast.specs.declared.halves.Halves.{Halves}

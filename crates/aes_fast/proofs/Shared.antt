@@ -2,8 +2,8 @@
 -- adds is taken away and what the other's adds is put there. Exclusive or is its own inverse, and its order is free.
 -- Assumes nothing.
 use mathlib.Core.Path.{_≡_, refl, sym, ap, ap₂, _∙_}
-use mathlib.Core.List.{List, [], _∷_}
-use Prim.Native.Nat.{ℕ, _<_}
+use mathlib.Core.List.{[], _∷_}
+use Prim.Native.Nat.{ℕ}
 use lib.Bits.{bitXor, xor-comm}
 use lib.ListN.{getD}
 use Rattle.octets.proofs.Xor.{xor-assoc, xor-cancel}

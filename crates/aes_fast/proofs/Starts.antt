@@ -1,20 +1,20 @@
 -- A start: the code's words are the definition's, and from it comes the cipher of the block with any last byte.
 -- Assumes nothing.
-use mathlib.Core.Path.{_≡_, refl, sym, ap, ap₂, _∙_}
-use mathlib.Core.List.{List, [], _∷_, _++_}
+use mathlib.Core.Path.{_≡_, sym, ap, ap₂, _∙_}
+use mathlib.Core.List.{List, [], _∷_}
 use Prim.Native.Nat.{ℕ, zero, suc, _/_, _%_, _^_, _<_}
 use native.Mathlib.Omega.{arith}
 use lib.Bits.{bitXor}
-use lib.ListN.{length, getD, take}
+use lib.ListN.{length, getD}
 use Rattle.octets.specs.Bytes.{Bytes}
 use Rattle.octets.proofs.Bytes.{bytes-nil, bytes-cons, bytes-append, bytes-take}
 use Rattle.octets.proofs.Values.{values-list}
 use Rattle.aes_field.specs.Words.{Column}
 use Rattle.aes.specs.State.{State, column, stateFrom, bytesOf}
 use Rattle.aes.specs.Cipher.{addColumn, addRoundKey}
-use Rattle.aes_fast.specs.ByTables.{Tables, columnFrom, entryAt, shifted, roundBy, lastRoundBy, roundsBy, roundsAfter, cipherBy}
+use Rattle.aes_fast.specs.ByTables.{Tables, columnFrom, entryAt, shifted, roundBy, roundsBy, roundsAfter, laterRoundsBy, cipherBy}
 use Rattle.aes_fast.specs.ByTables.Inside.{cipherBy-is}
-use Rattle.aes_fast.specs.Right.{wordFrom, Ready}
+use Rattle.aes_fast.specs.Right.{wordFrom}
 use Rattle.aes_fast.specs.Halves.{columnsOf, halvesBlock, halvesFrom}
 use Rattle.aes_fast.specs.Start.{withLast, stateAfter, columnAdds, startBy, begunBy, cipherFrom}
 use Rattle.aes_fast.specs.Start.Inside.{start-key, start-first, start-second, cipherFrom-is}
@@ -148,7 +148,7 @@ module _ (t : Tables) (ks : List State) (b : List ℕ) (low : ℕ) (keys : (n c 
   unfolding roundsAfter roundsBy
   from-start =
       cipherFrom-is t ks (startBy t ks b) low
-      ∙ ap (λ (s : State). bytesOf (lastRoundBy t (roundsAfter t ks 2 11 s) (getD ks 14 []))) begun-is
+      ∙ ap (λ (s : State). bytesOf (laterRoundsBy t ks 2 s)) begun-is
       ∙ sym (cipherBy-is t ks (withLast b low))
 
 pub bytes-withLast : {b : List ℕ} {low : ℕ} → Bytes b → low < 256 → Bytes (withLast b low)

@@ -1,13 +1,13 @@
 -- The rounds by tables as the loops count them, and a block by halves from its first round key to its last round.
 -- Assumes nothing.
-use mathlib.Core.Path.{_≡_, refl, sym, ap, ap₂, _∙_}
-use mathlib.Core.List.{List, [], _∷_}
+use mathlib.Core.Path.{_≡_, sym, ap, ap₂, _∙_}
+use mathlib.Core.List.{List, []}
 use Prim.Native.Nat.{ℕ, suc, _+_, _-_, _≤_}
 use native.Mathlib.Omega.{arith}
 use lib.ListN.{getD}
 use Rattle.aes.specs.State.{State, column, stateOf, stateFrom, bytes, bytesOf}
 use Rattle.aes.specs.Cipher.{addRoundKey}
-use Rattle.aes_fast.specs.ByTables.{Tables, roundBy, lastRoundBy, roundsBy, roundsAfter, cipherBy}
+use Rattle.aes_fast.specs.ByTables.{Tables, roundBy, lastRoundBy, roundsBy, roundsAfter, laterRoundsBy, cipherBy}
 use Rattle.aes_fast.specs.ByTables.Inside.{cipherBy-is}
 use Rattle.aes_fast.specs.Halves.{columnsOf, halvesBlock}
 use Rattle.aes_fast.specs.Start.{begunBy, cipherFrom}
@@ -47,7 +47,7 @@ module _ (t : Tables) (ks : List State) where
 
   -- the rounds after the first two, and the last
   pub last-rounds : (i : ℕ) (s x r : State) → i ≡ 13 → r ≡ lastRoundBy t x (getD ks 14 []) → x ≡ roundsAfter t ks 2 (i - 2) s
-      → r ≡ lastRoundBy t (roundsAfter t ks 2 11 s) (getD ks 14 [])
+      → r ≡ laterRoundsBy t ks 2 s
   last-rounds i s x r all e f =
       e ∙ ap (λ (y : State). lastRoundBy t y (getD ks 14 [])) (f ∙ ap (λ (n : ℕ). roundsAfter t ks 2 (n - 2) s) all)
 
@@ -57,28 +57,28 @@ module _ (t : Tables) (ks : List State) where
       → columnsOf x ≡ addRoundKey (stateFrom (halvesBlock h)) (getD ks 0 [])
   first-key h k x e f = e ∙ ap₂ addRoundKey (columnsOf-block h) f
 
-  last-block : (r : Halves) (x : State) → columnsOf r ≡ lastRoundBy t x (getD ks 14 []) → halvesBlock r ≡ bytesOf (lastRoundBy t x (getD ks 14 []))
+  block-of : (r : Halves) {x : State} → columnsOf r ≡ x → halvesBlock r ≡ bytesOf x
   unfolding halvesBlock
-  last-block r x e = ap bytesOf e
+  block-of r e = ap bytesOf e
 
   pub cipherBy-all : (b : List ℕ) (x : State) (r : Halves) → x ≡ addRoundKey (stateFrom b) (getD ks 0 [])
-      → columnsOf r ≡ lastRoundBy t (roundsAfter t ks 0 13 x) (getD ks 14 []) → halvesBlock r ≡ cipherBy t ks b
+      → columnsOf r ≡ laterRoundsBy t ks 0 x → halvesBlock r ≡ cipherBy t ks b
   unfolding roundsAfter roundsBy
-  cipherBy-all b x r e f = last-block r (roundsAfter t ks 0 13 x) f ∙ ap (λ (s : State). bytesOf (lastRoundBy t (roundsBy t ks 13 s) (getD ks 14 []))) e ∙ sym (cipherBy-is t ks b)
+  cipherBy-all b x r e f = block-of r f ∙ ap (λ (s : State). bytesOf (lastRoundBy t (roundsBy t ks 13 s) (getD ks 14 []))) e ∙ sym (cipherBy-is t ks b)
 
   pub cipherBy-two : (b : List ℕ) (x y z : State) (r : Halves) → x ≡ addRoundKey (stateFrom b) (getD ks 0 [])
       → y ≡ roundBy t x (getD ks 1 []) → z ≡ roundBy t y (getD ks 2 [])
-      → columnsOf r ≡ lastRoundBy t (roundsAfter t ks 2 11 z) (getD ks 14 []) → halvesBlock r ≡ cipherBy t ks b
+      → columnsOf r ≡ laterRoundsBy t ks 2 z → halvesBlock r ≡ cipherBy t ks b
   unfolding roundsAfter roundsBy
   cipherBy-two b x y z r e₁ e₂ e₃ f =
-      last-block r (roundsAfter t ks 2 11 z) f
-      ∙ ap (λ (s : State). bytesOf (lastRoundBy t (roundsAfter t ks 2 11 s) (getD ks 14 [])))
+      block-of r f
+      ∙ ap (λ (s : State). bytesOf (laterRoundsBy t ks 2 s))
       (e₃ ∙ ap (λ (s : State). roundBy t s (getD ks 2 [])) (e₂ ∙ ap (λ (s : State). roundBy t s (getD ks 1 [])) e₁))
       ∙ sym (cipherBy-is t ks b)
 
   pub cipherFrom-begun : (s : Start) (low : ℕ) (x : State) (r : Halves) → x ≡ begunBy t s low
-      → columnsOf r ≡ lastRoundBy t (roundsAfter t ks 2 11 x) (getD ks 14 []) → halvesBlock r ≡ cipherFrom t ks s low
+      → columnsOf r ≡ laterRoundsBy t ks 2 x → halvesBlock r ≡ cipherFrom t ks s low
   cipherFrom-begun s low x r e f =
-      last-block r (roundsAfter t ks 2 11 x) f
-      ∙ ap (λ (y : State). bytesOf (lastRoundBy t (roundsAfter t ks 2 11 y) (getD ks 14 []))) e
+      block-of r f
+      ∙ ap (λ (y : State). bytesOf (laterRoundsBy t ks 2 y)) e
       ∙ sym (cipherFrom-is t ks s low)

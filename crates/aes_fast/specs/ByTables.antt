@@ -1,6 +1,6 @@
 -- The cipher by four tables of words: what any tables give. `cipherBy` is shut, as `cipher` is.
 -- Assumes nothing.
-use Prim.Native.Nat.{ℕ, zero, suc, _+_, _/_, _%_}
+use Prim.Native.Nat.{ℕ, zero, suc, _+_, _-_, _/_, _%_}
 use mathlib.Core.List.{List, [], _∷_}
 use lib.ListN.{getD}
 use Rattle.aes_field.specs.Words.{Column}
@@ -53,6 +53,10 @@ roundsBy t ks (suc n) s = roundBy t (roundsBy t ks n s) (getD ks (suc n) [])
 unfoldable pub roundsAfter : Tables → List State → ℕ → ℕ → State → State
 roundsAfter t ks m zero s = s
 roundsAfter t ks m (suc n) s = roundBy t (roundsAfter t ks m n s) (getD ks (m + suc n) [])
+
+-- all rounds after the first m, the last too
+abbrev pub laterRoundsBy : Tables → List State → ℕ → State → State
+laterRoundsBy t ks m s = lastRoundBy t (roundsAfter t ks m (13 - m) s) (getD ks 14 [])
 
 pub cipherBy : Tables → List State → List ℕ → List ℕ
 cipherBy t ks b = bytesOf (lastRoundBy t (roundsBy t ks 13 (addRoundKey (stateFrom b) (getD ks 0 []))) (getD ks 14 []))

@@ -8,7 +8,7 @@ use lib.ListN.{getD, take}
 use Rattle.aes_field.specs.Words.{Column}
 use Rattle.aes.specs.State.{State, column, stateFrom, bytesOf}
 use Rattle.aes.specs.Cipher.{addColumn, addRoundKey}
-use Rattle.aes_fast.specs.ByTables.{Tables, columnFrom, entryAt, shifted, lastRoundBy, roundsBy, roundsAfter}
+use Rattle.aes_fast.specs.ByTables.{Tables, columnFrom, entryAt, shifted, roundsBy, laterRoundsBy}
 use Rattle.aes_fast.specs.Right.{wordFrom}
 use Rattle.aes_fast.specs.Halves.{columnsOf, halvesFrom}
 use Rattle.aes_fast.specs.declared.start.Start.{Start}
@@ -39,4 +39,4 @@ unfoldable pub begunBy : Tables → Start → ℕ → State
 begunBy t s low = addRoundKey (columnsOf (s .second)) (columnAdds t (addColumn (columnFrom (s .first)) (entryAt t 3 (bitXor low (s .key)))))
 
 pub cipherFrom : Tables → List State → Start → ℕ → List ℕ
-cipherFrom t ks s low = bytesOf (lastRoundBy t (roundsAfter t ks 2 11 (begunBy t s low)) (getD ks 14 []))
+cipherFrom t ks s low = bytesOf (laterRoundsBy t ks 2 (begunBy t s low))

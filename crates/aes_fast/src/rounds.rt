@@ -6,10 +6,9 @@ use crate::halves::from_columns;
 use crate::halves::halves_of;
 use crate::words::word_of;
 ghost use mathlib.Core.Path.{_≡_};
-ghost use mathlib.Core.List.{[]};
-ghost use Prim.Native.Nat.{_-_, _%_, _≤_};
+ghost use Prim.Native.Nat.{_%_, _≤_};
 ghost use lib.ListN.{getD};
-ghost use Rattle.aes_fast.specs.ByTables.{columnFrom, entryAt, mixedBy, substitutedBy, roundBy, lastRoundBy, roundsAfter};
+ghost use Rattle.aes_fast.specs.ByTables.{columnFrom, entryAt, mixedBy, substitutedBy, roundBy, lastRoundBy, laterRoundsBy};
 ghost use Rattle.aes_fast.specs.Halves.{columnsOf};
 
 fn mixed_column(t: &[[u32; 256]; 4], a: u64, b: u64, c: u64, d: u64) -> u32
@@ -90,7 +89,7 @@ pub(crate) fn rounds_after(
     s: Halves,
 ) -> Halves
     requires { ⌜ done ≤ 13 ⌝ }
-    ensures { λ r. ⌜ columnsOf r ≡ lastRoundBy (now (t .entry)) (roundsAfter (now (t .entry)) (now (ks .entry)) done (13 - done) (columnsOf s)) (getD (now (ks .entry)) 14 []) ⌝ }
+    ensures { λ r. ⌜ columnsOf r ≡ laterRoundsBy (now (t .entry)) (now (ks .entry)) done (columnsOf s) ⌝ }
 {
     let mut x = s;
     let mut i = done;
@@ -104,7 +103,7 @@ pub(crate) fn rounds_after(
 
 // Rounds 3 to 14 of two states side by side: neither waits for the other.
 pub(crate) fn rounds_after_two(t: &[[u32; 256]; 4], ks: &[[[u8; 4]; 4]; 15], s: Both) -> Both
-    ensures { λ r. ⌜ (columnsOf (r .one) ≡ lastRoundBy (now (t .entry)) (roundsAfter (now (t .entry)) (now (ks .entry)) 2 11 (columnsOf (s .one))) (getD (now (ks .entry)) 14 [])) × (columnsOf (r .other) ≡ lastRoundBy (now (t .entry)) (roundsAfter (now (t .entry)) (now (ks .entry)) 2 11 (columnsOf (s .other))) (getD (now (ks .entry)) 14 [])) ⌝ }
+    ensures { λ r. ⌜ (columnsOf (r .one) ≡ laterRoundsBy (now (t .entry)) (now (ks .entry)) 2 (columnsOf (s .one))) × (columnsOf (r .other) ≡ laterRoundsBy (now (t .entry)) (now (ks .entry)) 2 (columnsOf (s .other))) ⌝ }
 {
     let mut x = s.one;
     let mut y = s.other;

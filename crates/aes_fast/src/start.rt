@@ -13,6 +13,7 @@ ghost use Rattle.aes_fast.specs.ByTables.{columnFrom, entryAt};
 ghost use Rattle.aes_fast.specs.Halves.{columnsOf};
 ghost use Rattle.aes_fast.specs.Start.{columnAdds, begunBy, startBy};
 
+// The last byte's key; column 0 of round 1 without what the last byte adds; round 2 without what that column adds.
 pub struct Start {
     pub key: u8,
     pub first: u32,

@@ -6,7 +6,7 @@ use mathlib.Core.List.{List, []}
 use lib.ListN.{getD}
 use Rattle.aes.specs.State.{State, column, bytesOf}
 use Rattle.aes.specs.Cipher.{addColumn, addRoundKey}
-use Rattle.aes_fast.specs.ByTables.{Tables, entryAt, shifted, lastRoundBy, roundsAfter}
+use Rattle.aes_fast.specs.ByTables.{Tables, entryAt, shifted, laterRoundsBy}
 use Rattle.aes_fast.specs.Right.{wordFrom}
 use Rattle.aes_fast.specs.Halves.{halvesFrom}
 use Rattle.aes_fast.specs.declared.start.Start.{Start}
@@ -26,6 +26,6 @@ module _ (t : Tables) (ks : List State) (b : List ℕ) where
   start-second = refl
 
 pub cipherFrom-is : (t : Tables) (ks : List State) (s : Start) (low : ℕ)
-    → cipherFrom t ks s low ≡ bytesOf (lastRoundBy t (roundsAfter t ks 2 11 (begunBy t s low)) (getD ks 14 []))
+    → cipherFrom t ks s low ≡ bytesOf (laterRoundsBy t ks 2 (begunBy t s low))
 unfolding cipherFrom
 cipherFrom-is t ks s low = refl

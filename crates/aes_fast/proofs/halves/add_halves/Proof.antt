@@ -1,6 +1,5 @@
 -- `aes_fast::halves::add_halves` meets its contract: exclusive or of words adds the columns.
 -- Assumes nothing.
-use borrow.Author.Needs.{needs}
 use Rattle.aes_fast.specs.Halves.{columnsOf}
 use Rattle.aes_fast.proofs.Pairs.{columns-xor}
 use Rattle.aes_fast.proofs.halves.add_halves.Statement.{statement}

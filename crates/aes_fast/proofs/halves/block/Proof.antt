@@ -1,7 +1,6 @@
 -- `aes_fast::halves::block` meets its contract: the bytes of the two words.
 -- Assumes nothing.
 use borrow.Author.Needs.{needs}
-use mathlib.Core.Path.{_∙_, refl}
 use Rattle.aes_fast.specs.ByTables.{columnFrom}
 use Rattle.aes_fast.specs.Halves.{columnsOf, halvesBlock}
 use Rattle.aes_fast.proofs.Pairs.{block-bytes}

@@ -3,7 +3,6 @@
 use borrow.Author.Needs.{needs}
 use mathlib.Core.Path.{ap, _∙_}
 use Rattle.octets.proofs.Values.{values-list}
-use Rattle.octets.proofs.Arrays.{array-length}
 use Rattle.aes.specs.State.{bytesOf}
 use Rattle.aes_fast.specs.Halves.{halvesBlock}
 use Rattle.aes_fast.proofs.Columns.{four}

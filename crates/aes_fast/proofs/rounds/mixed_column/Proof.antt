@@ -1,8 +1,6 @@
 -- `aes_fast::rounds::mixed_column` meets its contract: exclusive or of words adds the columns.
 -- Assumes nothing.
 use borrow.Author.Needs.{needs}
-use mathlib.Core.Path.{ap, _∙_}
-use Rattle.aes_field.specs.Words.{Column}
 use Rattle.aes_fast.proofs.Columns.{columnFrom-xor-four}
 use Rattle.aes_fast.proofs.rounds.mixed_column.Statement.{statement}
 use Rattle.aes_fast.proofs.rounds.mixed_column.Tie as tie

@@ -1,14 +1,13 @@
 -- `aes_fast::rounds::rounds_after_two` meets its contract: the loop's invariant: the rounds up to i are done on both. The measure is the rounds left.
 -- Assumes nothing.
 use borrow.Author.Needs.{needs}
-use mathlib.Core.Path.{_≡_, ap, _∙_}
+use mathlib.Core.Path.{_≡_}
 use mathlib.Core.List.{[]}
-use Prim.Native.Nat.{ℕ, _+_, _≤_, _-_}
+use Prim.Native.Nat.{ℕ, _≤_, _-_}
 use native.Mathlib.Omega.{arith}
 use lib.Dec.{lit≤}
 use lib.ListN.{getD}
-use Rattle.aes.specs.State.{State}
-use Rattle.aes_fast.specs.ByTables.{lastRoundBy, roundsAfter}
+use Rattle.aes_fast.specs.ByTables.{roundsAfter}
 use Rattle.aes_fast.specs.Halves.{columnsOf}
 use Rattle.aes_fast.proofs.Steps.{roundBy-key, lastRoundBy-key, roundsAfter-none, roundsAfter-more, last-rounds}
 use Rattle.aes_fast.proofs.rounds.rounds_after_two.Statement.{statement}
