@@ -31,15 +31,16 @@ CipherByRight = (t : Tables) (key b : List ℕ) → Right t → Bytes key → By
 abbrev pub CipheredUnique : Type 0
 CipheredUnique = (t : Tables) (ks : List State) (b r r′ : List ℕ) → Ciphered t ks b r → Ciphered t ks b r′ → r ≡ r′
 
--- ---- from what blocks share, and by halves
-
+-- with ready tables and keys it is the cipher
 abbrev pub ReadyCipher : Type 0
 ReadyCipher = (t : Tables) (ks : List State) (b : List ℕ) → Ready t ks → Bytes b → length b ≡ 16 → cipherBy t ks b ≡ cipher ks b
 
--- the block b with another last byte
+-- and from what blocks share it is the cipher of the block with that last byte
 abbrev pub FromStart : Type 0
 FromStart = (t : Tables) (ks : List State) (b : List ℕ) (low : ℕ) → Ready t ks → Bytes b → length b ≡ 16 → low < 256
     → cipherFrom t ks (startBy t ks b) low ≡ cipher ks (withLast b low)
+
+-- ---- blocks in two words
 
 abbrev pub HalvesLength : Type 0
 HalvesLength = (h : Halves) → length (halvesBlock h) ≡ 16

@@ -41,9 +41,11 @@ returns c =
     let start = at-loop .before .before .before in
     let a = start .args in
     let key = c .before .before .halves-of2 .ensures in
-    let all : l .i ≡ 13 = omega arith in (
-      last-rounds (a .t .now) (a .ks .now) (l .i) (columnsOf (a .s .one)) (columnsOf (l .x)) _ all (lastRoundBy-key _ (columnsOf (l .x)) (getD (a .ks .now) 14 []) (c .before .last-round .ensures) key) (l .inv .2),
-      last-rounds (a .t .now) (a .ks .now) (l .i) (columnsOf (a .s .other)) (columnsOf (l .y)) _ all (lastRoundBy-key _ (columnsOf (l .y)) (getD (a .ks .now) 14 []) (c .last-round2 .ensures) key) (l .inv .3),
+    let all : l .i ≡ 13 = omega arith in
+    let one = lastRoundBy-key _ (columnsOf (l .x)) (getD (a .ks .now) 14 []) (c .before .last-round .ensures) key in
+    let other = lastRoundBy-key _ (columnsOf (l .y)) (getD (a .ks .now) 14 []) (c .last-round2 .ensures) key in (
+      last-rounds (a .t .now) (a .ks .now) (l .i) (columnsOf (a .s .one)) (columnsOf (l .x)) _ all one (l .inv .2),
+      last-rounds (a .t .now) (a .ks .now) (l .i) (columnsOf (a .s .other)) (columnsOf (l .y)) _ all other (l .inv .3),
     )
 
 pub rounds-after-two-spec : {M : Type 1} → statement M

@@ -22,7 +22,9 @@ returns c =
     let x = none .add-halves .result in
     let y = one .round .result in
     let z = two .round2 .result in
-    let after0 = after-0 (a .t .now) (a .ks .now) (a .b) (read .halves-from .result) (key0 .halves-of .result) x (read .halves-from .ensures) (key0 .halves-of .ensures) (none .add-halves .ensures) in
+    let after0 =
+    after-0 (a .t .now) (a .ks .now) (a .b) (read .halves-from .result) (key0 .halves-of .result) x
+    (read .halves-from .ensures) (key0 .halves-of .ensures) (none .add-halves .ensures) in
     let after1 = after-1 (a .t .now) (a .ks .now) (a .b) x (key1 .halves-of2 .result) y after0 (key1 .halves-of2 .ensures) (one .round .ensures) in
     let after2 = after-2 (a .t .now) (a .ks .now) (a .b) y (key2 .halves-of3 .result) z after1 (key2 .halves-of3 .ensures) (two .round2 .ensures) in
     start-steps (a .t .now) (a .ks .now) (a .b) _ x y z (adds .column-adds .result) after0 after1 after2
