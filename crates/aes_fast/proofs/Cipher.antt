@@ -15,8 +15,8 @@ use Rattle.aes.proofs.Invert.{IsState, add-state, rounds-state, block-state}
 use Rattle.aes_fast.specs.ByTables.{Tables, roundColumnBy, lastColumnBy, roundBy, lastRoundBy, roundsBy, cipherBy}
 use Rattle.aes_fast.specs.ByTables.Inside.{cipherBy-is}
 use Rattle.aes_fast.specs.Right.{added, Right, Ready}
-use Rattle.aes_fast.specs.Laws.{Ciphered, CipheredTwo}
-use Rattle.aes_fast.proofs.Columns.{two, four}
+use Rattle.aes_fast.specs.Laws.{Ciphered}
+use Rattle.aes_fast.proofs.Columns.{four}
 use Rattle.aes_fast.proofs.Entries.{entry-0, entry-1, entry-2, entry-3}
 
 -- what each byte of a column adds makes the mixed column
@@ -90,11 +90,8 @@ module _ (t : Tables) (ks : List State) (keys : AreKeys ks) (right : Right t) wh
 -- ---- what a call says: by the tables, and so by FIPS 197 where they are right
 
 module _ (t : Tables) (ks : List State) where
-  by-cipher : {b r : List ℕ} → Bytes b → r ≡ cipherBy t ks b → Ready t ks → r ≡ cipher ks b
-  by-cipher {b} h e ready = e ∙ cipherBy-right t ks (λ n. record { columns = ready .keys n }) (ready .tables) b h
+  pub ready-cipher : Ready t ks → {b : List ℕ} → Bytes b → cipherBy t ks b ≡ cipher ks b
+  ready-cipher ready {b} h = cipherBy-right t ks (λ n. record { columns = ready .keys n }) (ready .tables) b h
 
   pub ciphered : {b r : List ℕ} → Bytes b → r ≡ cipherBy t ks b → Ciphered t ks b r
-  ciphered h e = record { by-tables = e; by-cipher = by-cipher h e }
-
-  pub ciphered-two : {a b x y : List ℕ} → Bytes a → Bytes b → x ≡ cipherBy t ks a → y ≡ cipherBy t ks b → CipheredTwo t ks a b (x ∷ y ∷ [])
-  ciphered-two ha hb p q = record { by-tables = two p q; by-cipher = λ ready. two (by-cipher ha p ready) (by-cipher hb q ready) }
+  ciphered h e = record { by-tables = e; by-cipher = λ ready. e ∙ ready-cipher ready h }

@@ -5,15 +5,12 @@ use mathlib.Core.List.{[], _∷_}
 use Prim.Native.Nat.{ℕ, _+_, _*_, _/_, _%_, _^_, _<_}
 use native.Mathlib.Omega.{arith}
 use lib.Bits.{bitXor, xor-shr, xor-mod}
-use Rattle.aes_field.specs.Words.{columnOf}
+use Rattle.aes_field.specs.Words.{Column, columnOf}
 use Rattle.aes.specs.Cipher.{addColumn}
 use Rattle.aes_fast.specs.ByTables.{columnFrom}
 use Rattle.aes_fast.specs.Right.{wordFrom}
 
--- lists of two and of four are equal by their elements
-
-pub two : {A : Type 0} {a b a′ b′ : A} → a ≡ a′ → b ≡ b′ → a ∷ b ∷ [] ≡ a′ ∷ b′ ∷ []
-two p q = cc
+-- lists of four are equal by their elements
 
 pub four : {A : Type 0} {a b c d a′ b′ c′ d′ : A} → a ≡ a′ → b ≡ b′ → c ≡ c′ → d ≡ d′ → a ∷ b ∷ c ∷ d ∷ [] ≡ a′ ∷ b′ ∷ c′ ∷ d′ ∷ []
 four p q r s = cc
@@ -26,6 +23,12 @@ xor-row a b k = ap (λ (x : ℕ). x % 2 ^ 8) (xor-shr a b k) ∙ xor-mod (a / 2 
 pub columnFrom-xor : (a b : ℕ) → columnFrom (bitXor a b) ≡ addColumn (columnFrom a) (columnFrom b)
 unfolding columnFrom
 columnFrom-xor a b = four (xor-mod a b 8) (xor-row a b 8) (xor-row a b 16) (xor-row a b 24)
+
+pub columnFrom-xor-four : (a b c d : ℕ)
+    → columnFrom (bitXor (bitXor (bitXor a b) c) d) ≡ addColumn (addColumn (addColumn (columnFrom a) (columnFrom b)) (columnFrom c)) (columnFrom d)
+columnFrom-xor-four a b c d =
+    columnFrom-xor (bitXor (bitXor a b) c) d
+    ∙ ap (λ (x : Column). addColumn x (columnFrom d)) (columnFrom-xor (bitXor a b) c ∙ ap (λ (x : Column). addColumn x (columnFrom c)) (columnFrom-xor a b))
 
 -- ---- of bytes
 

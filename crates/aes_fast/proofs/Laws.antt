@@ -1,12 +1,14 @@
 -- The laws of specs/Laws.antt.
 -- Assumes nothing.
-use mathlib.Core.Path.{sym}
+use mathlib.Core.Path.{sym, _∙_}
 use Rattle.octets.proofs.Lent.{one-answer}
 use Rattle.aes.specs.KeyExpansion.{schedule}
 use Rattle.aes.proofs.Keys.{schedule-keys}
 use Rattle.aes_fast.specs.Right.Inside.{is-right}
-use Rattle.aes_fast.specs.Laws.{MadeReady, CipherByRight, CipheredUnique, CipheredTwoUnique}
+use Rattle.aes_fast.specs.Laws.{MadeReady, CipherByRight, CipheredUnique, ReadyCipher, FromStart, HalvesLength, HalvesBytes, HalvesUnique}
 use Rattle.aes_fast.proofs.Cipher as cipher
+use Rattle.aes_fast.proofs.Restored as restored
+use Rattle.aes_fast.proofs.Starts as starts
 
 pub made-ready : MadeReady
 made-ready t ks key et ek bytes = record { tables = is-right et; keys = λ n c. rw ek (schedule-keys key bytes n .columns c) }
@@ -17,5 +19,17 @@ cipherBy-right t key b right hk hb = cipher.cipherBy-right t (schedule key) (sch
 pub ciphered-unique : CipheredUnique
 ciphered-unique t ks b r r′ p q = one-answer (sym (p .by-tables)) (sym (q .by-tables))
 
-pub ciphered-two-unique : CipheredTwoUnique
-ciphered-two-unique t ks a b r r′ p q = one-answer (sym (p .by-tables)) (sym (q .by-tables))
+pub ready-cipher : ReadyCipher
+ready-cipher t ks b ready hb sixteen = cipher.ready-cipher t ks ready hb
+
+pub from-start : FromStart
+from-start t ks b low ready hb sixteen hl = starts.from-start t ks b low (ready .keys) sixteen ∙ cipher.ready-cipher t ks ready (starts.bytes-withLast hb hl)
+
+pub halves-length : HalvesLength
+halves-length = restored.length-halvesBlock
+
+pub halves-bytes : HalvesBytes
+halves-bytes = restored.bytes-halvesBlock
+
+pub halves-unique : HalvesUnique
+halves-unique = restored.halves-unique

@@ -1,5 +1,9 @@
 mod Columns
 mod Entries
+mod Pairs
 mod Steps
+mod Shared
+mod Restored
+mod Starts
 mod Cipher
 pub mod Laws

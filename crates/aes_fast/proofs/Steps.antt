@@ -1,26 +1,84 @@
--- The rounds by tables as the loops count them, and a block from its load to its store.
+-- The rounds by tables as the loops count them, and a block by halves from its first round key to its last round.
 -- Assumes nothing.
-use mathlib.Core.Path.{_≡_, sym, ap, _∙_}
-use mathlib.Core.List.{List, [], _∷_}
-use Prim.Native.Nat.{ℕ, _+_}
-use native.Mathlib.Numerals.{add-one}
+use mathlib.Core.Path.{_≡_, sym, ap, ap₂, _∙_}
+use mathlib.Core.List.{List, []}
+use Prim.Native.Nat.{ℕ, suc, _+_, _-_, _≤_}
+use native.Mathlib.Omega.{arith}
 use lib.ListN.{getD}
-use Rattle.aes.specs.State.{State, column, stateFrom, bytes, bytesOf}
+use Rattle.aes.specs.State.{State, column, stateOf, stateFrom, bytes, bytesOf}
 use Rattle.aes.specs.Cipher.{addRoundKey}
-use Rattle.aes_fast.specs.ByTables.{Tables, roundBy, lastRoundBy, roundsBy, cipherBy}
+use Rattle.aes_fast.specs.ByTables.{Tables, roundBy, lastRoundBy, roundsBy, roundsAfter, laterRoundsBy, cipherBy}
 use Rattle.aes_fast.specs.ByTables.Inside.{cipherBy-is}
+use Rattle.aes_fast.specs.Halves.{columnsOf, halvesBlock}
+use Rattle.aes_fast.specs.Start.{begunBy, cipherFrom}
+use Rattle.aes_fast.specs.Start.Inside.{cipherFrom-is}
+use Rattle.aes_fast.specs.declared.halves.Halves.{Halves}
+use Rattle.aes_fast.specs.declared.start.Start.{Start}
+use Rattle.aes_fast.proofs.Pairs.{columnsOf-block}
+
+-- a round key as the words hold it: four rows of each column
+abbrev pub keyBytes : State → State
+keyBytes k = stateOf (λ c. bytes (column k c))
+
+module _ (t : Tables) where
+  -- a round reads no more of its key
+  pub roundBy-key : (x : State) {y u : State} (k : State) → u ≡ roundBy t x y → y ≡ keyBytes k → u ≡ roundBy t x k
+  unfolding roundBy
+  roundBy-key x k e f = e ∙ ap (roundBy t x) f
+
+  pub lastRoundBy-key : (x : State) {y u : State} (k : State) → u ≡ lastRoundBy t x y → y ≡ keyBytes k → u ≡ lastRoundBy t x k
+  unfolding lastRoundBy
+  lastRoundBy-key x k e f = e ∙ ap (lastRoundBy t x) f
 
 module _ (t : Tables) (ks : List State) where
-  pub roundsBy-more : (i : ℕ) (s x u : State) → x ≡ roundsBy t ks i s → u ≡ roundBy t x (getD ks (i + 1) []) → u ≡ roundsBy t ks (i + 1) s
-  unfolding roundsBy
-  roundsBy-more i s x u p q = rw (q, p, add-one)
+  pub roundsAfter-none : (m : ℕ) (s : State) → s ≡ roundsAfter t ks m (m - m) s
+  unfolding roundsAfter
+  roundsAfter-none m s = let e : 0 ≡ m - m = omega arith in ap (λ (n : ℕ). roundsAfter t ks m n s) e
 
-  pub cipherBy-steps : (b r : List ℕ) (l x y z : State)
-      → l ≡ stateFrom b → x ≡ addRoundKey l (getD ks 0 []) → y ≡ roundsBy t ks 13 x → z ≡ lastRoundBy t y (getD ks 14 []) → r ≡ bytesOf z
-      → r ≡ cipherBy t ks b
-  cipherBy-steps b r l x y z e₁ e₂ e₃ e₄ e₅ = rw (e₅, e₄, e₃, e₂, e₁) (sym (cipherBy-is t ks b))
+  pub roundsAfter-more : (m i : ℕ) (s : State) {x u : State} → m ≤ i
+      → x ≡ roundsAfter t ks m (i - m) s → u ≡ roundBy t x (getD ks (i + 1) []) → u ≡ roundsAfter t ks m (i + 1 - m) s
+  unfolding roundsAfter
+  roundsAfter-more m i s h p q =
+      let key : i + 1 ≡ m + suc (i - m) = omega arith in
+      let more : suc (i - m) ≡ i + 1 - m = omega arith in
+      q
+      ∙ ap₂ (λ (y : State) (n : ℕ). roundBy t y (getD ks n [])) p key
+      ∙ ap (λ (n : ℕ). roundsAfter t ks m n s) more
 
-  -- a state that a round key was added to has four rows, and is its own bytes
-  pub all-bytes : (l k x : State) → x ≡ addRoundKey l k
-      → roundsBy t ks 13 (bytes (column x 0) ∷ bytes (column x 1) ∷ bytes (column x 2) ∷ bytes (column x 3) ∷ []) ≡ roundsBy t ks 13 x
-  all-bytes l k x e = ap (λ (s : State). roundsBy t ks 13 (bytes (column s 0) ∷ bytes (column s 1) ∷ bytes (column s 2) ∷ bytes (column s 3) ∷ [])) e ∙ ap (roundsBy t ks 13) (sym e)
+  -- the rounds after the first two, and the last
+  pub last-rounds : (i : ℕ) (s x r : State) → i ≡ 13 → r ≡ lastRoundBy t x (getD ks 14 []) → x ≡ roundsAfter t ks 2 (i - 2) s
+      → r ≡ laterRoundsBy t ks 2 s
+  last-rounds i s x r all e f =
+      e ∙ ap (λ (y : State). lastRoundBy t y (getD ks 14 [])) (f ∙ ap (λ (n : ℕ). roundsAfter t ks 2 (n - 2) s) all)
+
+  -- ---- from a block's halves to the halves of its cipher
+
+  pub first-key : (h k x : Halves) → columnsOf x ≡ addRoundKey (columnsOf h) (columnsOf k) → columnsOf k ≡ keyBytes (getD ks 0 [])
+      → columnsOf x ≡ addRoundKey (stateFrom (halvesBlock h)) (getD ks 0 [])
+  first-key h k x e f = e ∙ ap₂ addRoundKey (columnsOf-block h) f
+
+  block-of : (r : Halves) {x : State} → columnsOf r ≡ x → halvesBlock r ≡ bytesOf x
+  unfolding halvesBlock
+  block-of r e = ap bytesOf e
+
+  pub cipherBy-all : (b : List ℕ) (x : State) (r : Halves) → x ≡ addRoundKey (stateFrom b) (getD ks 0 [])
+      → columnsOf r ≡ laterRoundsBy t ks 0 x → halvesBlock r ≡ cipherBy t ks b
+  unfolding roundsAfter roundsBy
+  cipherBy-all b x r e f = block-of r f ∙ ap (λ (s : State). bytesOf (lastRoundBy t (roundsBy t ks 13 s) (getD ks 14 []))) e ∙ sym (cipherBy-is t ks b)
+
+  pub cipherBy-two : (b : List ℕ) (x y z : State) (r : Halves) → x ≡ addRoundKey (stateFrom b) (getD ks 0 [])
+      → y ≡ roundBy t x (getD ks 1 []) → z ≡ roundBy t y (getD ks 2 [])
+      → columnsOf r ≡ laterRoundsBy t ks 2 z → halvesBlock r ≡ cipherBy t ks b
+  unfolding roundsAfter roundsBy
+  cipherBy-two b x y z r e₁ e₂ e₃ f =
+      block-of r f
+      ∙ ap (λ (s : State). bytesOf (laterRoundsBy t ks 2 s))
+      (e₃ ∙ ap (λ (s : State). roundBy t s (getD ks 2 [])) (e₂ ∙ ap (λ (s : State). roundBy t s (getD ks 1 [])) e₁))
+      ∙ sym (cipherBy-is t ks b)
+
+  pub cipherFrom-begun : (s : Start) (low : ℕ) (x : State) (r : Halves) → x ≡ begunBy t s low
+      → columnsOf r ≡ laterRoundsBy t ks 2 x → halvesBlock r ≡ cipherFrom t ks s low
+  cipherFrom-begun s low x r e f =
+      block-of r f
+      ∙ ap (λ (y : State). bytesOf (laterRoundsBy t ks 2 y)) e
+      ∙ sym (cipherFrom-is t ks s low)

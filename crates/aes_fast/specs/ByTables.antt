@@ -1,6 +1,6 @@
 -- The cipher by four tables of words: what any tables give. `cipherBy` is shut, as `cipher` is.
 -- Assumes nothing.
-use Prim.Native.Nat.{ℕ, zero, suc, _+_, _/_, _%_}
+use Prim.Native.Nat.{ℕ, zero, suc, _+_, _-_, _/_, _%_}
 use mathlib.Core.List.{List, [], _∷_}
 use lib.ListN.{getD}
 use Rattle.aes_field.specs.Words.{Column}
@@ -23,13 +23,20 @@ entryAt t n a = columnFrom (getD (getD t n []) a 0)
 abbrev pub shifted : State → ℕ → ℕ → ℕ
 shifted s c r = getD (column s ((c + r) % 4)) r 0
 
--- a column of a round: for the bytes a, b, c and d, in rows 0 to 3, what each one's table has, and the key
-abbrev pub roundColumnBy : Tables → ℕ → ℕ → ℕ → ℕ → Column → Column
-roundColumnBy t a b c d k = addColumn (addColumn (addColumn (addColumn (entryAt t 0 a) (entryAt t 1 b)) (entryAt t 2 c)) (entryAt t 3 d)) k
+-- for the bytes a, b, c and d, in rows 0 to 3: what each one's table has, together
+abbrev pub mixedBy : Tables → ℕ → ℕ → ℕ → ℕ → Column
+mixedBy t a b c d = addColumn (addColumn (addColumn (entryAt t 0 a) (entryAt t 1 b)) (entryAt t 2 c)) (entryAt t 3 d)
 
--- a column of the last round: row 1 of what table 0 has for each byte, and the key
+-- and row 1 of what table 0 has for each
+abbrev pub substitutedBy : Tables → ℕ → ℕ → ℕ → ℕ → Column
+substitutedBy t a b c d = getD (entryAt t 0 a) 1 0 ∷ getD (entryAt t 0 b) 1 0 ∷ getD (entryAt t 0 c) 1 0 ∷ getD (entryAt t 0 d) 1 0 ∷ []
+
+-- a column of a round, and of the last round, with the key
+abbrev pub roundColumnBy : Tables → ℕ → ℕ → ℕ → ℕ → Column → Column
+roundColumnBy t a b c d k = addColumn (mixedBy t a b c d) k
+
 abbrev pub lastColumnBy : Tables → ℕ → ℕ → ℕ → ℕ → Column → Column
-lastColumnBy t a b c d k = addColumn (getD (entryAt t 0 a) 1 0 ∷ getD (entryAt t 0 b) 1 0 ∷ getD (entryAt t 0 c) 1 0 ∷ getD (entryAt t 0 d) 1 0 ∷ []) k
+lastColumnBy t a b c d k = addColumn (substitutedBy t a b c d) k
 
 unfoldable pub roundBy : Tables → State → State → State
 roundBy t s k = stateOf (λ c. roundColumnBy t (shifted s c 0) (shifted s c 1) (shifted s c 2) (shifted s c 3) (column k c))
@@ -41,6 +48,15 @@ lastRoundBy t s k = stateOf (λ c. lastColumnBy t (shifted s c 0) (shifted s c 1
 unfoldable pub roundsBy : Tables → List State → ℕ → State → State
 roundsBy t ks zero s = s
 roundsBy t ks (suc n) s = roundBy t (roundsBy t ks n s) (getD ks (suc n) [])
+
+-- n rounds after the first m
+unfoldable pub roundsAfter : Tables → List State → ℕ → ℕ → State → State
+roundsAfter t ks m zero s = s
+roundsAfter t ks m (suc n) s = roundBy t (roundsAfter t ks m n s) (getD ks (m + suc n) [])
+
+-- all rounds after the first m, the last too
+abbrev pub laterRoundsBy : Tables → List State → ℕ → State → State
+laterRoundsBy t ks m s = lastRoundBy t (roundsAfter t ks m (13 - m) s) (getD ks 14 [])
 
 pub cipherBy : Tables → List State → List ℕ → List ℕ
 cipherBy t ks b = bytesOf (lastRoundBy t (roundsBy t ks 13 (addRoundKey (stateFrom b) (getD ks 0 []))) (getD ks 14 []))

@@ -1,24 +1,23 @@
 -- What a call of the fast way says, and what it promises to the crates above it, as statements; proofs/Laws.antt proves each.
 -- Assumes nothing.
 use mathlib.Core.Path.{_≡_}
-use Prim.Native.Nat.{ℕ}
-use mathlib.Core.List.{List, [], _∷_}
+use Prim.Native.Nat.{ℕ, _^_, _<_}
+use mathlib.Core.List.{List}
+use lib.ListN.{length}
 use Rattle.octets.specs.Bytes.{Bytes}
 use Rattle.aes.specs.State.{State}
 use Rattle.aes.specs.Cipher.{cipher}
 use Rattle.aes.specs.KeyExpansion.{schedule}
 use Rattle.aes_fast.specs.ByTables.{Tables, cipherBy}
 use Rattle.aes_fast.specs.Right.{roundTables, Right, Ready}
+use Rattle.aes_fast.specs.Halves.{halvesBlock}
+use Rattle.aes_fast.specs.Start.{withLast, startBy, cipherFrom}
+use Rattle.aes_fast.specs.declared.halves.Halves.{Halves}
 
 -- r is the block b ciphered: by the lent tables and round keys, whatever they are, and so by FIPS 197 where the tables are the right ones and the keys are bytes
 pub record Ciphered (t : Tables) (ks : List State) (b r : List ℕ) : Type 0 where
   pub by-tables : r ≡ cipherBy t ks b
   pub by-cipher : Ready t ks → r ≡ cipher ks b
-
--- the same of two blocks
-pub record CipheredTwo (t : Tables) (ks : List State) (a b : List ℕ) (r : List (List ℕ)) : Type 0 where
-  pub by-tables : r ≡ cipherBy t ks a ∷ cipherBy t ks b ∷ []
-  pub by-cipher : Ready t ks → r ≡ cipher ks a ∷ cipher ks b ∷ []
 
 -- the tables that are made, and the schedule of a key, are ready
 abbrev pub MadeReady : Type 0
@@ -32,5 +31,23 @@ CipherByRight = (t : Tables) (key b : List ℕ) → Right t → Bytes key → By
 abbrev pub CipheredUnique : Type 0
 CipheredUnique = (t : Tables) (ks : List State) (b r r′ : List ℕ) → Ciphered t ks b r → Ciphered t ks b r′ → r ≡ r′
 
-abbrev pub CipheredTwoUnique : Type 0
-CipheredTwoUnique = (t : Tables) (ks : List State) (a b : List ℕ) (r r′ : List (List ℕ)) → CipheredTwo t ks a b r → CipheredTwo t ks a b r′ → r ≡ r′
+-- with ready tables and keys it is the cipher
+abbrev pub ReadyCipher : Type 0
+ReadyCipher = (t : Tables) (ks : List State) (b : List ℕ) → Ready t ks → Bytes b → length b ≡ 16 → cipherBy t ks b ≡ cipher ks b
+
+-- and from what blocks share it is the cipher of the block with that last byte
+abbrev pub FromStart : Type 0
+FromStart = (t : Tables) (ks : List State) (b : List ℕ) (low : ℕ) → Ready t ks → Bytes b → length b ≡ 16 → low < 256
+    → cipherFrom t ks (startBy t ks b) low ≡ cipher ks (withLast b low)
+
+-- ---- blocks in two words
+
+abbrev pub HalvesLength : Type 0
+HalvesLength = (h : Halves) → length (halvesBlock h) ≡ 16
+
+abbrev pub HalvesBytes : Type 0
+HalvesBytes = (h : Halves) → Bytes (halvesBlock h)
+
+-- one block is one pair of words
+abbrev pub HalvesUnique : Type 0
+HalvesUnique = (g h : Halves) → g .first < 2 ^ 64 → g .second < 2 ^ 64 → h .first < 2 ^ 64 → h .second < 2 ^ 64 → halvesBlock g ≡ halvesBlock h → g ≡ h

@@ -1,94 +1,124 @@
-// The rounds by tables. Word arithmetic at both ends of a column becomes single loads and stores of 32 bits.
-use crate::words::add_words;
-use crate::words::column;
-use crate::words::word;
+// The rounds by tables, over a state in two words. A byte of a word is its place in a table.
+use crate::halves::Both;
+use crate::halves::Halves;
+use crate::halves::add_halves;
+use crate::halves::from_columns;
+use crate::halves::halves_of;
 use crate::words::word_of;
 ghost use mathlib.Core.Path.{_≡_};
-ghost use mathlib.Core.List.{[], _∷_};
+ghost use Prim.Native.Nat.{_%_, _≤_};
 ghost use lib.ListN.{getD};
-ghost use Rattle.aes.specs.Cipher.{addColumn, addRoundKey};
-ghost use Rattle.aes_fast.specs.ByTables.{entryAt, roundColumnBy, lastColumnBy, roundBy, lastRoundBy, roundsBy};
+ghost use Rattle.aes_fast.specs.ByTables.{columnFrom, entryAt, mixedBy, substitutedBy, roundBy, lastRoundBy, laterRoundsBy};
+ghost use Rattle.aes_fast.specs.Halves.{columnsOf};
 
-fn add_column(a: [u8; 4], k: [u8; 4]) -> [u8; 4]
-    ensures { λ r. ⌜ r ≡ addColumn a k ⌝ }
+fn mixed_column(t: &[[u32; 256]; 4], a: u64, b: u64, c: u64, d: u64) -> u32
+    ensures { λ r. ⌜ columnFrom r ≡ mixedBy (now (t .entry)) (a % 256) (b % 256) (c % 256) (d % 256) ⌝ }
 {
-    column(add_words(word(a), word(k)))
+    t[0][(a % 256) as usize]
+        ^ t[1][(b % 256) as usize]
+        ^ t[2][(c % 256) as usize]
+        ^ t[3][(d % 256) as usize]
 }
 
-pub(crate) fn add_round_key(s: [[u8; 4]; 4], k: [[u8; 4]; 4]) -> [[u8; 4]; 4]
-    ensures { λ r. ⌜ r ≡ addRoundKey s k ⌝ }
+pub(crate) fn round(t: &[[u32; 256]; 4], s: Halves, k: Halves) -> Halves
+    ensures { λ r. ⌜ columnsOf r ≡ roundBy (now (t .entry)) (columnsOf s) (columnsOf k) ⌝ }
 {
-    [
-        add_column(s[0], k[0]),
-        add_column(s[1], k[1]),
-        add_column(s[2], k[2]),
-        add_column(s[3], k[3]),
-    ]
+    let a = s.first;
+    let b = s.second;
+    let c0 = mixed_column(t, a, a / 1099511627776, b / 65536, b / 72057594037927936);
+    let c1 = mixed_column(
+        t,
+        a / 4294967296,
+        b / 256,
+        b / 281474976710656,
+        a / 16777216,
+    );
+    let c2 = mixed_column(t, b, b / 1099511627776, a / 65536, a / 72057594037927936);
+    let c3 = mixed_column(
+        t,
+        b / 4294967296,
+        a / 256,
+        a / 281474976710656,
+        b / 16777216,
+    );
+    add_halves(from_columns(c0, c1, c2, c3), k)
 }
 
-fn round_column(t: &[[u32; 256]; 4], a: u8, b: u8, c: u8, d: u8, k: [u8; 4]) -> [u8; 4]
-    ensures { λ r. ⌜ r ≡ roundColumnBy (now (t .entry)) a b c d k ⌝ }
+// Row 1 of what table 0 has for a byte.
+fn row_one(t: &[[u32; 256]; 4], a: u64) -> u8
+    ensures { λ r. ⌜ r ≡ getD (entryAt (now (t .entry)) 0 (a % 256)) 1 0 ⌝ }
 {
-    let p = add_words(t[0][a as usize], t[1][b as usize]);
-    let q = add_words(p, t[2][c as usize]);
-    let r = add_words(q, t[3][d as usize]);
-    column(add_words(r, word(k)))
+    (t[0][(a % 256) as usize] / 256 % 256) as u8
 }
 
-// Row 1 of what table 0 has for the byte a.
-fn row_one(t: &[[u32; 256]; 4], a: u8) -> u8
-    ensures { λ r. ⌜ r ≡ getD (entryAt (now (t .entry)) 0 a) 1 0 ⌝ }
+fn last_column(t: &[[u32; 256]; 4], a: u64, b: u64, c: u64, d: u64) -> u32
+    ensures { λ r. ⌜ columnFrom r ≡ substitutedBy (now (t .entry)) (a % 256) (b % 256) (c % 256) (d % 256) ⌝ }
 {
-    (t[0][a as usize] / 256 % 256) as u8
+    word_of(row_one(t, a), row_one(t, b), row_one(t, c), row_one(t, d))
 }
 
-fn last_column(t: &[[u32; 256]; 4], a: u8, b: u8, c: u8, d: u8, k: [u8; 4]) -> [u8; 4]
-    ensures { λ r. ⌜ r ≡ lastColumnBy (now (t .entry)) a b c d k ⌝ }
+fn last_round(t: &[[u32; 256]; 4], s: Halves, k: Halves) -> Halves
+    ensures { λ r. ⌜ columnsOf r ≡ lastRoundBy (now (t .entry)) (columnsOf s) (columnsOf k) ⌝ }
 {
-    let w = word_of(row_one(t, a), row_one(t, b), row_one(t, c), row_one(t, d));
-    column(add_words(w, word(k)))
+    let a = s.first;
+    let b = s.second;
+    let c0 = last_column(t, a, a / 1099511627776, b / 65536, b / 72057594037927936);
+    let c1 = last_column(
+        t,
+        a / 4294967296,
+        b / 256,
+        b / 281474976710656,
+        a / 16777216,
+    );
+    let c2 = last_column(t, b, b / 1099511627776, a / 65536, a / 72057594037927936);
+    let c3 = last_column(
+        t,
+        b / 4294967296,
+        a / 256,
+        a / 281474976710656,
+        b / 16777216,
+    );
+    add_halves(from_columns(c0, c1, c2, c3), k)
 }
 
-fn one_round(t: &[[u32; 256]; 4], s: [[u8; 4]; 4], k: [[u8; 4]; 4]) -> [[u8; 4]; 4]
-    ensures { λ r. ⌜ r ≡ roundBy (now (t .entry)) s k ⌝ }
-{
-    [
-        round_column(t, s[0][0], s[1][1], s[2][2], s[3][3], k[0]),
-        round_column(t, s[1][0], s[2][1], s[3][2], s[0][3], k[1]),
-        round_column(t, s[2][0], s[3][1], s[0][2], s[1][3], k[2]),
-        round_column(t, s[3][0], s[0][1], s[1][2], s[2][3], k[3]),
-    ]
-}
-
-pub(crate) fn last_round(t: &[[u32; 256]; 4], s: [[u8; 4]; 4], k: [[u8; 4]; 4]) -> [[u8; 4]; 4]
-    ensures { λ r. ⌜ r ≡ lastRoundBy (now (t .entry)) s k ⌝ }
-{
-    [
-        last_column(t, s[0][0], s[1][1], s[2][2], s[3][3], k[0]),
-        last_column(t, s[1][0], s[2][1], s[3][2], s[0][3], k[1]),
-        last_column(t, s[2][0], s[3][1], s[0][2], s[1][3], k[2]),
-        last_column(t, s[3][0], s[0][1], s[1][2], s[2][3], k[3]),
-    ]
-}
-
-// Rounds 1 to 13 of two states side by side.
-pub(crate) fn all_rounds_two(
+// The rounds that are left after the first `done`.
+pub(crate) fn rounds_after(
     t: &[[u32; 256]; 4],
     ks: &[[[u8; 4]; 4]; 15],
-    s: [[[u8; 4]; 4]; 2],
-) -> [[[u8; 4]; 4]; 2]
-    ensures { λ r. ⌜ r ≡ roundsBy (now (t .entry)) (now (ks .entry)) 13 (getD s 0 []) ∷ roundsBy (now (t .entry)) (now (ks .entry)) 13 (getD s 1 []) ∷ [] ⌝ }
+    done: usize,
+    s: Halves,
+) -> Halves
+    requires { ⌜ done ≤ 13 ⌝ }
+    ensures { λ r. ⌜ columnsOf r ≡ laterRoundsBy (now (t .entry)) (now (ks .entry)) done (columnsOf s) ⌝ }
 {
-    let mut x = s[0];
-    let mut y = s[1];
-    let mut i: usize = 0;
+    let mut x = s;
+    let mut i = done;
     while i < 13 {
-        let k = ks[i + 1];
-        let u = one_round(t, x, k);
-        let v = one_round(t, y, k);
+        let u = round(t, x, halves_of(ks[i + 1]));
+        x = u;
+        i += 1;
+    }
+    last_round(t, x, halves_of(ks[14]))
+}
+
+// Rounds 3 to 14 of two states side by side: neither waits for the other.
+pub(crate) fn rounds_after_two(t: &[[u32; 256]; 4], ks: &[[[u8; 4]; 4]; 15], s: Both) -> Both
+    ensures { λ r. ⌜ (columnsOf (r .one) ≡ laterRoundsBy (now (t .entry)) (now (ks .entry)) 2 (columnsOf (s .one))) × (columnsOf (r .other) ≡ laterRoundsBy (now (t .entry)) (now (ks .entry)) 2 (columnsOf (s .other))) ⌝ }
+{
+    let mut x = s.one;
+    let mut y = s.other;
+    let mut i: usize = 2;
+    while i < 13 {
+        let k = halves_of(ks[i + 1]);
+        let u = round(t, x, k);
+        let v = round(t, y, k);
         x = u;
         y = v;
         i += 1;
     }
-    [x, y]
+    let k = halves_of(ks[14]);
+    Both {
+        one: last_round(t, x, k),
+        other: last_round(t, y, k),
+    }
 }

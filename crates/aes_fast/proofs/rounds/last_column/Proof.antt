@@ -6,28 +6,15 @@ use Rattle.aes_fast.proofs.rounds.last_column.Tie as tie
 
 returns : tie.Need-returns
 returns c =
-    let added = c .before in
-    let key = added .before in
-    let made = key .before in
-    let fourth = made .before in
+    let fourth = c .before in
     let third = fourth .before in
     let second = third .before in
     let first = second .before in
-    rw (
-      c .column .ensures,
-      added .add-words .ensures,
-      key .word .ensures,
-      made .word-of .ensures .1,
-      fourth .row-one4 .ensures,
-      third .row-one3 .ensures,
-      second .row-one2 .ensures,
-      first .row-one .ensures,
-    )
+    rw (c .word-of .ensures, fourth .row-one4 .ensures, third .row-one3 .ensures, second .row-one2 .ensures, first .row-one .ensures)
 
 pub last-column-spec : {M : Type 1} → statement M
 last-column-spec =
     tie.close
     (tie.spec
-    (λ c κs. search needs) (λ c κs. search needs) (λ c κs. search needs) (λ c κs. search needs)
-    (λ c κs. search needs) (λ c κs. search needs) (λ c κs. search needs) (λ c κs. search needs)
+    (λ c κs. search needs) (λ c κs. search needs) (λ c κs. search needs) (λ c κs. search needs) (λ c κs. search needs)
     returns)

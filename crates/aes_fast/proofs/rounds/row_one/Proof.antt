@@ -10,4 +10,7 @@ unfolding columnFrom
 returns c = search needs
 
 pub row-one-spec : {M : Type 1} → statement M
-row-one-spec = tie.close (tie.spec (λ c. search needs) (λ c. search needs) (λ c. search needs) (λ c. search needs) returns)
+row-one-spec =
+    tie.close
+    (tie.spec
+    (λ c. search needs) (λ c. search needs) (λ c. search needs) (λ c. search needs) returns)

@@ -1,0 +1,112 @@
+-- Columns as words, and states as halves, there and back; and the columns of the rounds are bytes where the key is.
+-- Assumes nothing.
+use mathlib.Core.Path.{_≡_, refl, ap, ap₂, sym, _∙_}
+use Prim.Native.Nat.{ℕ, _+_, _*_, _/_, _%_, _^_, _<_}
+use native.Mathlib.Nat.{mod-lt}
+use native.Mathlib.Omega.{arith}
+use lib.Dec.{lit<}
+use lib.ListN.{length, getD}
+use Rattle.octets.specs.Bytes.{Bytes}
+use Rattle.octets.proofs.Bytes.{bytes-nil, bytes-cons, bytes-append}
+use Rattle.octets.proofs.Xor.{xor-byte}
+use lib.Bits.{bitXor}
+use Rattle.aes_field.specs.Words.{Column}
+use Rattle.aes.specs.State.{State, column, stateFrom}
+use Rattle.aes.specs.Cipher.{addColumn, addRoundKey}
+use Rattle.aes_fast.specs.ByTables.{Tables, columnFrom, mixedBy}
+use Rattle.aes_fast.specs.Right.{wordFrom}
+use Rattle.aes_fast.specs.Halves.{columnsOf, halvesBlock, halvesFrom}
+use Rattle.aes_fast.specs.declared.halves.Halves.{Halves}
+use Rattle.aes_fast.proofs.Columns.{four, columnFrom-wordFrom}
+use Rattle.aes_fast.proofs.Pairs.{low-part, low-column, high-column, columnsOf-block}
+
+-- ---- from words and back
+
+digits : (w : ℕ) → w < 4294967296 → w ≡ w % 256 + w / 256 % 256 * 256 + w / 256 / 256 % 256 * 65536 + w / 256 / 256 / 256 % 256 * 16777216
+digits w h = omega arith
+
+place-2 : (w : ℕ) → w / 65536 ≡ w / 256 / 256
+place-2 w = omega arith
+
+place-3 : (w : ℕ) → w / 16777216 ≡ w / 256 / 256 / 256
+place-3 w = omega arith
+
+pub wordFrom-columnFrom : (w : ℕ) → w < 4294967296 → w ≡ wordFrom (columnFrom w)
+unfolding columnFrom
+wordFrom-columnFrom w h = digits w h ∙ ap₂ (λ (m n : ℕ). w % 256 + w / 256 % 256 * 256 + m % 256 * 65536 + n % 256 * 16777216) (sym (place-2 w)) (sym (place-3 w))
+
+half-from : (w : ℕ) → w < 2 ^ 64 → w ≡ wordFrom (columnFrom w) + wordFrom (columnFrom (w / 4294967296)) * 4294967296
+half-from w h =
+    let low : w % 4294967296 < 4294967296 = mod-lt w (lit< tt) in
+    let high : w / 4294967296 < 4294967296 = omega arith in
+    let whole : w ≡ w % 4294967296 + w / 4294967296 * 4294967296 = omega arith in
+    whole
+    ∙ ap₂ (λ (m n : ℕ). m + n * 4294967296)
+    (wordFrom-columnFrom (w % 4294967296) low ∙ ap wordFrom (low-part w)) (wordFrom-columnFrom (w / 4294967296) high)
+
+pub halves-equal : (g h : Halves) → g .first ≡ h .first → g .second ≡ h .second → g ≡ h
+halves-equal g h p q = ap₂ (λ (a b : ℕ). let made : Halves = record { first = a; second = b } in made) p q
+
+pub halvesFrom-columnsOf : (h : Halves) → h .first < 2 ^ 64 → h .second < 2 ^ 64 → h ≡ halvesFrom (columnsOf h)
+unfolding columnsOf
+halvesFrom-columnsOf h p q = halves-equal h (halvesFrom (columnsOf h)) (half-from (h .first) p) (half-from (h .second) q)
+
+-- ---- bytes
+
+pub bytes-columnFrom : (w : ℕ) → Bytes (columnFrom w)
+unfolding columnFrom
+bytes-columnFrom w = bytes-cons (mod-lt w (lit< tt)) (bytes-cons (mod-lt (w / 256) (lit< tt)) (bytes-cons (mod-lt (w / 65536) (lit< tt)) (bytes-cons (mod-lt (w / 16777216) (lit< tt)) bytes-nil)))
+
+pub bytes-addColumn : {a b : Column} → Bytes a → Bytes b → Bytes (addColumn a b)
+bytes-addColumn {a} {b} ha hb =
+    let at : (r : ℕ) → bitXor (getD a r 0) (getD b r 0) < 256 = λ r. xor-byte (ha .byte r) (hb .byte r) in
+    bytes-cons (at 0) (bytes-cons (at 1) (bytes-cons (at 2) (bytes-cons (at 3) bytes-nil)))
+
+pub bytes-mixedBy : (t : Tables) (a b c d : ℕ) (k : Column) → Bytes k → Bytes (addColumn (mixedBy t a b c d) k)
+bytes-mixedBy t a b c d k hk =
+    bytes-addColumn
+    (bytes-addColumn (bytes-addColumn (bytes-addColumn (bytes-columnFrom _) (bytes-columnFrom _)) (bytes-columnFrom _)) (bytes-columnFrom _)) hk
+
+-- ---- back to words of bytes
+
+module _ (x y : Column) (hx : Bytes x) (hy : Bytes y) where
+  pub columnFrom-sum : columnFrom (wordFrom (addColumn x y)) ≡ addColumn x y
+  columnFrom-sum = columnFrom-wordFrom (λ r. bitXor (getD x r 0) (getD y r 0)) (λ r. xor-byte (hx .byte r) (hy .byte r))
+
+  sum-lt : wordFrom (addColumn x y) < 4294967296
+  sum-lt =
+      let h₀ : bitXor (getD x 0 0) (getD y 0 0) < 256 = xor-byte (hx .byte 0) (hy .byte 0) in
+      let h₁ : bitXor (getD x 1 0) (getD y 1 0) < 256 = xor-byte (hx .byte 1) (hy .byte 1) in
+      let h₂ : bitXor (getD x 2 0) (getD y 2 0) < 256 = xor-byte (hx .byte 2) (hy .byte 2) in
+      let h₃ : bitXor (getD x 3 0) (getD y 3 0) < 256 = xor-byte (hx .byte 3) (hy .byte 3) in
+      omega arith
+
+pub columnsOf-sum : (s k : State) → ((c : ℕ) → Bytes (column s c)) → ((c : ℕ) → Bytes (column k c))
+    → columnsOf (halvesFrom (addRoundKey s k)) ≡ addRoundKey s k
+unfolding columnsOf
+columnsOf-sum s k hs hk =
+    let word : ℕ → ℕ = λ c. wordFrom (addColumn (column s c) (column k c)) in
+    let back : (c : ℕ) → columnFrom (wordFrom (addColumn (column s c) (column k c))) ≡ addColumn (column s c) (column k c)
+    = λ c. columnFrom-sum (column s c) (column k c) (hs c) (hk c) in
+    let below : (c : ℕ) → wordFrom (addColumn (column s c) (column k c)) < 4294967296 = λ c. sum-lt (column s c) (column k c) (hs c) (hk c) in
+    four
+    (low-column (word 0) (word 1) ∙ back 0) (high-column (word 0) (word 1) (below 0) ∙ back 1)
+    (low-column (word 2) (word 3) ∙ back 2) (high-column (word 2) (word 3) (below 2) ∙ back 3)
+
+-- ---- blocks
+
+pub length-halvesBlock : (h : Halves) → length (halvesBlock h) ≡ 16
+unfolding halvesBlock
+length-halvesBlock h = refl
+
+pub bytes-halvesBlock : (h : Halves) → Bytes (halvesBlock h)
+unfolding halvesBlock columnsOf columnFrom
+bytes-halvesBlock h =
+    bytes-append (bytes-columnFrom (h .first))
+    (bytes-append (bytes-columnFrom (h .first / 4294967296)) (bytes-append (bytes-columnFrom (h .second)) (bytes-columnFrom (h .second / 4294967296))))
+
+pub halves-unique : (g h : Halves) → g .first < 2 ^ 64 → g .second < 2 ^ 64 → h .first < 2 ^ 64 → h .second < 2 ^ 64 → halvesBlock g ≡ halvesBlock h → g ≡ h
+halves-unique g h p q r s e =
+    halvesFrom-columnsOf g p q
+    ∙ ap halvesFrom (columnsOf-block g ∙ ap stateFrom e ∙ sym (columnsOf-block h))
+    ∙ sym (halvesFrom-columnsOf h r s)

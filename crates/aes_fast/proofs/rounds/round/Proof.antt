@@ -1,0 +1,31 @@
+-- `aes_fast::rounds::round` meets its contract: its four columns.
+-- Assumes nothing.
+use borrow.Author.Needs.{needs}
+use mathlib.Core.Path.{ap, _∙_}
+use Rattle.aes.specs.State.{State}
+use Rattle.aes.specs.Cipher.{addRoundKey}
+use Rattle.aes_fast.specs.Halves.{columnsOf}
+use Rattle.aes_fast.proofs.Pairs.{roundBy-words}
+use Rattle.aes_fast.proofs.rounds.round.Statement.{statement}
+use Rattle.aes_fast.proofs.rounds.round.Tie as tie
+
+returns : tie.Need-returns
+unfolding columnsOf
+returns c =
+    let made = c .before in
+    let fourth = made .before in
+    let third = fourth .before in
+    let second = third .before in
+    let first = second .before in
+    let a = first .before .args in
+    c .add-halves .ensures
+    ∙ ap (λ (s : State). addRoundKey s (columnsOf (a .k))) (made .from-columns .ensures)
+    ∙ roundBy-words (a .t .now) (a .s .first) (a .s .second) (columnsOf (a .k))
+    (first .mixed-column .ensures) (second .mixed-column2 .ensures) (third .mixed-column3 .ensures) (fourth .mixed-column4 .ensures)
+
+pub round-spec : {M : Type 1} → statement M
+round-spec =
+    tie.close
+    (tie.spec
+    (λ c κs. search needs) (λ c κs. search needs) (λ c κs. search needs) (λ c κs. search needs) (λ c κs. search needs)
+    (λ c κs. search needs) returns)

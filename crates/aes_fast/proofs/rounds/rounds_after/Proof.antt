@@ -1,0 +1,52 @@
+-- `aes_fast::rounds::rounds_after` meets its contract: the loop's invariant: the rounds up to i are done. The measure is the rounds left.
+-- Assumes nothing.
+use borrow.Author.Needs.{needs}
+use mathlib.Core.Path.{_≡_, ap, _∙_}
+use mathlib.Core.List.{[]}
+use Prim.Native.Nat.{ℕ, _≤_, _-_}
+use native.Mathlib.Omega.{arith}
+use lib.Dec.{lit≤}
+use lib.ListN.{getD}
+use Rattle.aes.specs.State.{State}
+use Rattle.aes_fast.specs.ByTables.{lastRoundBy, roundsAfter}
+use Rattle.aes_fast.specs.Halves.{columnsOf}
+use Rattle.aes_fast.proofs.Steps.{roundBy-key, lastRoundBy-key, roundsAfter-none, roundsAfter-more}
+use Rattle.aes_fast.proofs.rounds.rounds_after.Statement.{statement}
+use Rattle.aes_fast.proofs.rounds.rounds_after.Tie as tie
+
+abbrev Inv-loop : tie.InvT-loop
+Inv-loop t ks done x₀ i₀ x i = (done ≤ i) × (i ≤ 13) × (columnsOf x ≡ roundsAfter t ks done (i - done) (columnsOf x₀))
+
+abbrev μ-loop : tie.MeasureT-loop
+μ-loop t ks done x₀ i₀ x i = 13 - i
+
+loop-holds : tie.Need-loop-holds Inv-loop μ-loop
+loop-holds c = (omega arith, c .pre, roundsAfter-none _ _ (c .args .done) _)
+
+loop-again : tie.Need-loop-again Inv-loop μ-loop
+loop-again c =
+    let at-loop = c .before .before .before .before in
+    let l = at-loop .loop in
+    let a = at-loop .before .args in (
+      omega arith,
+      omega arith,
+      roundsAfter-more _ _ (a .done) (l .i) _ (l .inv .0) (l .inv .2) (roundBy-key _ (columnsOf (l .x)) _ (c .round .ensures) (c .before .halves-of .ensures)),
+    )
+
+returns : tie.Need-returns Inv-loop μ-loop
+returns c =
+    let at-loop = c .before .before .before .before in
+    let l = at-loop .loop in
+    let a = at-loop .before .args in
+    let all : l .i ≡ 13 = omega arith in
+    lastRoundBy-key _ (columnsOf (l .x)) (getD (a .ks .now) 14 []) (c .last-round .ensures) (c .before .halves-of2 .ensures)
+    ∙ ap (λ (s : State). lastRoundBy (a .t .now) s (getD (a .ks .now) 14 []))
+    (l .inv .2 ∙ ap (λ (n : ℕ). roundsAfter (a .t .now) (a .ks .now) (a .done) (n - a .done) (columnsOf (a .s))) all)
+
+pub rounds-after-spec : {M : Type 1} → statement M
+rounds-after-spec =
+    tie.close
+    (tie.spec
+    Inv-loop μ-loop loop-holds (λ c. search needs) (λ c. search needs)
+    (λ c. search needs) (λ c κs. search needs) (λ c κs. search needs) (λ c. search needs) (λ c. search needs)
+    loop-again (λ c. search needs) (λ c κs. search needs) (λ c κs. search needs) returns)

@@ -1,0 +1,23 @@
+-- What two words of 64 bits stand for: a state, and a block, the first byte lowest.
+-- Assumes nothing.
+use Prim.Native.Nat.{ℕ, _+_, _*_, _/_}
+use mathlib.Core.List.{List, [], _∷_}
+use Rattle.aes.specs.State.{State, column, bytesOf}
+use Rattle.aes_fast.specs.ByTables.{columnFrom}
+use Rattle.aes_fast.specs.Right.{wordFrom}
+use Rattle.aes_fast.specs.declared.halves.Halves.{Halves}
+
+-- columns 0 and 1, and columns 2 and 3
+unfoldable pub columnsOf : Halves → State
+columnsOf h = columnFrom (h .first) ∷ columnFrom (h .first / 4294967296) ∷ columnFrom (h .second) ∷ columnFrom (h .second / 4294967296) ∷ []
+
+unfoldable pub halvesBlock : Halves → List ℕ
+halvesBlock h = bytesOf (columnsOf h)
+
+-- the words of a state
+abbrev pub halvesFrom : State → Halves
+halvesFrom s =
+    record {
+      first = wordFrom (column s 0) + wordFrom (column s 1) * 4294967296;
+      second = wordFrom (column s 2) + wordFrom (column s 3) * 4294967296;
+    }
