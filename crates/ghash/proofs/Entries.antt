@@ -1,145 +1,155 @@
--- The table of H: how it is filled, each entry from an earlier one, and how a word is looked up in it.
+-- The tables of H: how they are filled, each entry from an earlier one, and how a word is looked up in its table.
 -- Assumes nothing.
-use mathlib.Core.Path.{_≡_, refl, sym, ap, ap₂, _∙_}
-use mathlib.Core.List.{List, [], _∷_, _++_}
-use Prim.Native.Nat.{ℕ, suc, _+_, _*_, _/_, _%_, _^_, _<_}
+use mathlib.Core.Path.{_≡_, sym, ap, ap₂, _∙_}
+use mathlib.Core.Bool.{Bool}
+use mathlib.Core.List.{List}
+use Prim.Native.Nat.{ℕ, suc, _+_, _*_, _-_, _/_, _%_, _^_, _≤_, _<_}
+use native.Mathlib.Nat.{add-assoc, add-zero, zero-add, mul-suc, suc-mul}
+use native.Mathlib.Numerals.{add-one}
 use native.Mathlib.Omega.{arith}
 use borrow.Author.Count.{below-more}
-use lib.Bits.{bitXor, xor-comm, xor-zero-l, xor-zero-r}
-use lib.ListN.{length, getD, set}
+use borrow.Author.Tests.{lt-ltb, le-ltb}
+use lib.Arith.{digits-div, digits-mod}
+use lib.Bits.{bitXor, xor-comm, xor-zero-l}
+use lib.ListN.{length, getD, set, length-set}
 use lib.Seq.{getD-set-same, getD-set-other}
 use Rattle.octets.specs.BigEndian.{be}
-use Rattle.octets.proofs.Values.{cons-equal}
+use Rattle.octets.specs.Lent.{when}
+use Rattle.octets.specs.Xor.{xors}
+use Rattle.octets.proofs.BigEndian.{be-xor}
 use Rattle.octets.proofs.Xor.{xor-assoc}
 use Rattle.ghash.specs.declared.words.Wide.{Wide}
-use Rattle.ghash.specs.Field.{timesXs, multiply, timesH}
-use Rattle.ghash.specs.Table.{halfBits, halves, entryAt, Sums, Filled}
-use Rattle.ghash.specs.Words.{blockOf}
-use Rattle.ghash.proofs.Wide.{xor-words}
-use Rattle.ghash.proofs.Multiply.{timesXs-add, multiply-bit, multiply-none, multiply-halves, multiply-words}
+use Rattle.ghash.specs.Field.{timesXs, timesH}
+use Rattle.ghash.specs.Table.{adds, entryAt, Window, Sums, entryIn, Filled}
+use Rattle.ghash.specs.Words.{val, blockOf}
+use Rattle.ghash.proofs.Multiply.{timesXs-add, adds-none, adds-window, adds-mod, adds-highest, multiply-words}
 
 -- ---- entries
 
-pub entry-at : (h i n k : ℕ) → i % 16 ≡ n → i / 16 ≡ k → entryAt h i ≡ multiply (halfBits n) 0 (timesXs (4 * k) h)
+pub entry-first : (b h n : ℕ) → n < 16 → entryAt b h n ≡ adds 4 h n
 unfolding entryAt
-entry-at h i n k e f = ap₂ (λ (m j : ℕ). multiply (halfBits m) 0 (timesXs (4 * j) h)) e f
+entry-first b h n lt =
+    ap (λ (t : Bool). when t (adds 4 h n) (adds b (timesXs (4 + b * ((n - 16) / 2 ^ b)) h) ((n - 16) % 2 ^ b))) (lt-ltb n 16 lt)
 
-module _ (h base : ℕ) (whole : base % 16 ≡ 0) where
-  pub entry-none : 0 ≡ entryAt h base
-  entry-none = sym (entry-at h base 0 (base / 16) whole refl ∙ multiply-none (timesXs (4 * (base / 16)) h))
-
-  -- the bit t, which stands after the bits xs, and the bits ys of m below it
-  highest : (xs ys : List ℕ) (t m p : ℕ) → t + m < 16 → halfBits (t + m) ≡ xs ++ 1 ∷ ys → halfBits m ≡ xs ++ 0 ∷ ys
-      → p ≡ timesXs (length xs) (timesXs (4 * (base / 16)) h) → entryAt h (base + t + m) ≡ bitXor (entryAt h (base + m)) p
-  highest xs ys t m p lt et em ep =
-      entry-at h (base + t + m) (t + m) (base / 16) (omega arith) (omega arith)
-      ∙ ap (λ (l : List ℕ). multiply l 0 (timesXs (4 * (base / 16)) h)) et
-      ∙ multiply-bit xs ys 0 (timesXs (4 * (base / 16)) h)
-      ∙ ap₂ bitXor
-      (ap (λ (l : List ℕ). multiply l 0 (timesXs (4 * (base / 16)) h)) (sym em)
-      ∙ sym (entry-at h (base + m) m (base / 16) (omega arith) (omega arith)))
-      (sym ep)
-
-  module _ (v : ℕ) (key : v ≡ timesXs (4 * (base / 16)) h) where
-    pub entry-one : (p : ℕ) → p ≡ timesXs 3 v → Sums h base 1 p
-    entry-one p ep m lt =
-        highest (0 ∷ 0 ∷ 0 ∷ []) [] 1 m p (omega arith)
-        (cons-equal (omega arith) (cons-equal (omega arith) (cons-equal (omega arith) (cons-equal (omega arith) refl))))
-        (cons-equal (omega arith) (cons-equal (omega arith) (cons-equal (omega arith) (cons-equal (omega arith) refl))))
-        (ep ∙ ap (timesXs 3) key)
-
-    pub entry-two : (p : ℕ) → p ≡ timesXs 2 v → Sums h base 2 p
-    entry-two p ep m lt =
-        highest (0 ∷ 0 ∷ []) (m % 2 ∷ []) 2 m p (omega arith)
-        (cons-equal (omega arith) (cons-equal (omega arith) (cons-equal (omega arith) (cons-equal (omega arith) refl))))
-        (cons-equal (omega arith) (cons-equal (omega arith) (cons-equal (omega arith) refl)))
-        (ep ∙ ap (timesXs 2) key)
-
-    pub entry-four : (p : ℕ) → p ≡ timesXs 1 v → Sums h base 4 p
-    entry-four p ep m lt =
-        highest (0 ∷ []) (m / 2 % 2 ∷ m % 2 ∷ []) 4 m p (omega arith)
-        (cons-equal (omega arith) (cons-equal (omega arith) (cons-equal (omega arith) (cons-equal (omega arith) refl))))
-        (cons-equal (omega arith) (cons-equal (omega arith) refl))
-        (ep ∙ ap (timesXs 1) key)
-
-    pub entry-eight : Sums h base 8 v
-    entry-eight m lt =
-        highest [] (m / 4 % 2 ∷ m / 2 % 2 ∷ m % 2 ∷ []) 8 m v (omega arith)
-        (cons-equal (omega arith) (cons-equal (omega arith) (cons-equal (omega arith) (cons-equal (omega arith) refl))))
-        (cons-equal (omega arith) refl)
-        key
-
--- V from place to place
-pub next-place : (h base v r : ℕ) → base % 16 ≡ 0 → v ≡ timesXs (4 * (base / 16)) h → r ≡ timesXs 4 v → r ≡ timesXs (4 * ((base + 16) / 16)) h
-next-place h base v r whole ev er =
-    er ∙ ap (timesXs 4) ev ∙ sym (timesXs-add (4 * (base / 16)) 4 h) ∙ ap (λ (k : ℕ). timesXs k h) next
+pub entry-window : (b h k n : ℕ) → n < 2 ^ b → entryAt b h (16 + k * 2 ^ b + n) ≡ adds b (timesXs (4 + b * k) h) n
+unfolding entryAt
+entry-window b h k n lt =
+    ap (λ (t : Bool). when t (adds 4 h i) (adds b (timesXs (4 + b * ((i - 16) / 2 ^ b)) h) ((i - 16) % 2 ^ b))) (le-ltb i 16 (past (k * 2 ^ b) n))
+    ∙ ap (λ (m : ℕ). adds b (timesXs (4 + b * (m / 2 ^ b)) h) (m % 2 ^ b)) (from (k * 2 ^ b) n)
+    ∙ ap₂ (λ (q m : ℕ). adds b (timesXs (4 + b * q) h) m) (digits-div k lt) (digits-mod k lt)
   where
-    next : 4 * (base / 16) + 4 ≡ 4 * ((base + 16) / 16)
-    next = omega arith
+    i : ℕ
+    i = 16 + k * 2 ^ b + n
+
+    past : (m r : ℕ) → 16 ≤ 16 + m + r
+    past m r = omega arith
+
+    from : (m r : ℕ) → 16 + m + r - 16 ≡ m + r
+    from m r = omega arith
+
+-- ---- windows
+
+pub first-window : (b h : ℕ) → Window (entryAt b h) 0 4 h
+first-window b h n lt = ap (entryAt b h) (zero-add n) ∙ entry-first b h n lt
+
+pub window-at : (b h k i v : ℕ) → i ≡ 16 + k * 2 ^ b → v ≡ timesXs (4 + b * k) h → Window (entryAt b h) i b v
+window-at b h k i v ei ev n lt = ap (λ (m : ℕ). entryAt b h (m + n)) ei ∙ entry-window b h k n lt ∙ ap (λ (m : ℕ). adds b m n) (sym ev)
+
+-- the entry of no bit
+pub window-none : (f : ℕ → ℕ) (base b v : ℕ) → 0 < 2 ^ b → Window f base b v → 0 ≡ f base
+window-none f base b v lt w = sym (ap f (sym (add-zero base)) ∙ w 0 lt ∙ adds-none b v)
+
+-- the entries whose highest bit has d bits before it and j after
+pub window-sums : (f : ℕ → ℕ) (base d j v p : ℕ) → 2 ^ j + 2 ^ j ≤ 2 ^ suc (d + j) → p ≡ timesXs d v → Window f base (suc (d + j)) v → Sums f base (2 ^ j) p
+window-sums f base d j v p fits ep w n lt =
+    ap f (add-assoc base (2 ^ j) n)
+    ∙ w (2 ^ j + n) (both (2 ^ j) n (2 ^ suc (d + j)) fits lt)
+    ∙ adds-highest d j v n lt
+    ∙ ap₂ bitXor (sym (w n (lower (2 ^ j) n (2 ^ suc (d + j)) fits lt))) (sym ep)
+  where
+    both : (t m e : ℕ) → t + t ≤ e → m < t → t + m < e
+    both t m e h k = omega arith
+
+    lower : (t m e : ℕ) → t + t ≤ e → m < t → m < e
+    lower t m e h k = omega arith
+
+-- the entries of the last four bits of six
+pub window-four : (f : ℕ → ℕ) (base v p : ℕ) → p ≡ timesXs 2 v → Window f base 6 v → Window f base 4 p
+window-four f base v p ep w n lt =
+    w n (omega arith)
+    ∙ adds-window 2 4 v n
+    ∙ ap₂ (λ (m q : ℕ). bitXor (adds 2 v m) (adds 4 q n)) above (sym ep)
+    ∙ ap (λ (m : ℕ). bitXor m (adds 4 p n)) (adds-none 2 v)
+    ∙ xor-zero-l (adds 4 p n)
+  where
+    above : n / 2 ^ 4 ≡ 0
+    above = omega arith
 
 -- ---- filling
 
-pub filled-none : (h : ℕ) (high low : List ℕ) → Filled h high low 0
-filled-none h high low = record { at = λ i lt. absurd (omega arith) }
+pub filled-none : (f : ℕ → ℕ) (t : List ℕ) → Filled f t 0
+filled-none f t = record { at = λ i lt. absurd (omega arith) }
 
-pub filled-same : {h : ℕ} {high low : List ℕ} {m n : ℕ} → m ≡ n → Filled h high low m → Filled h high low n
-filled-same e f = rw (sym e) f
+pub filled-same : {f : ℕ → ℕ} {t : List ℕ} {m n : ℕ} → m ≡ n → Filled f t m → Filled f t n
+filled-same e g = rw (sym e) g
 
-pub filled-more : (h : ℕ) (high low : List ℕ) (i a b : ℕ) → i < length high → i < length low → a * 2 ^ 64 + b ≡ entryAt h i
-    → Filled h high low i → Filled h (set high i a) (set low i b) (i + 1)
-filled-more h high low i a b hh hl e f = record { at = below-more _ i old new }
+pub twice : (b t u : ℕ) → t + t ≡ u → b + t + t ≡ b + u
+twice b t u e = omega arith
+
+pub filled-more : (f : ℕ → ℕ) (t : List ℕ) (i a b : ℕ) → 2 * i + 2 ≤ length t → a * 2 ^ 64 + b ≡ f i
+    → Filled f t i → Filled f (set (set t (2 * i) a) (2 * i + 1) b) (i + 1)
+filled-more f t i a b fits e g = record { at = below-more _ i old new }
   where
-    new : getD (set high i a) i 0 * 2 ^ 64 + getD (set low i b) i 0 ≡ entryAt h i
-    new = ap₂ (λ (m n : ℕ). m * 2 ^ 64 + n) (getD-set-same high i a 0 hh) (getD-set-same low i b 0 hl) ∙ e
+    new : entryIn (set (set t (2 * i) a) (2 * i + 1) b) i ≡ f i
+    new =
+        ap₂ (λ (m n : ℕ). m * 2 ^ 64 + n)
+        (getD-set-other (set t (2 * i) a) (2 * i + 1) (2 * i) b 0 (λ s. omega arith) ∙ getD-set-same t (2 * i) a 0 (omega arith))
+        (getD-set-same (set t (2 * i) a) (2 * i + 1) b 0 (omega (arith, length-set t (2 * i) a)))
+        ∙ e
 
-    old : (k : ℕ) → k < i → getD (set high i a) k 0 * 2 ^ 64 + getD (set low i b) k 0 ≡ entryAt h k
-    old k lt =
-        ap₂ (λ (m n : ℕ). m * 2 ^ 64 + n) (getD-set-other high i k a 0 (λ s. omega arith)) (getD-set-other low i k b 0 (λ s. omega arith))
-        ∙ f .at k lt
+    kept : (k : ℕ) → k < 2 * i → getD (set (set t (2 * i) a) (2 * i + 1) b) k 0 ≡ getD t k 0
+    kept k lt = getD-set-other (set t (2 * i) a) (2 * i + 1) k b 0 (λ s. omega arith) ∙ getD-set-other t (2 * i) k a 0 (λ s. omega arith)
 
--- an entry that is the sum of an earlier one and of p
-pub filled-sum : (h : ℕ) (high low : List ℕ) (i k ph pl : ℕ) → i < length high → i < length low → k < i → getD low k 0 < 2 ^ 64 → pl < 2 ^ 64
-    → entryAt h i ≡ bitXor (entryAt h k) (ph * 2 ^ 64 + pl)
-    → Filled h high low i → Filled h (set high i (bitXor (getD high k 0) ph)) (set low i (bitXor (getD low k 0) pl)) (i + 1)
-filled-sum h high low i k ph pl hh hl earlier small small-p e f =
-    filled-more h high low i _ _ hh hl
-    (xor-words (getD high k 0) (getD low k 0) ph pl small small-p ∙ ap (λ (n : ℕ). bitXor n (ph * 2 ^ 64 + pl)) (f .at k earlier) ∙ sym e) f
+    old : (k : ℕ) → k < i → entryIn (set (set t (2 * i) a) (2 * i + 1) b) k ≡ f k
+    old k lt = ap₂ (λ (m n : ℕ). m * 2 ^ 64 + n) (kept (2 * k) (omega arith)) (kept (2 * k + 1) (omega arith)) ∙ g .at k lt
 
--- ---- a word looked up, the last half byte first
+next : (b k : ℕ) → 4 + b * k + b ≡ 4 + b * (k + 1)
+next b k = add-assoc 4 (b * k) b ∙ ap (λ (n : ℕ). 4 + n) (sym (ap (λ (n : ℕ). b * n) (add-one k) ∙ mul-suc b k))
 
-pub word-turn : (h first k w z r i : ℕ) → i ≡ 16 * (first + k) + w % 16 → r ≡ bitXor z (entryAt h i)
-    → bitXor r (multiply (halves k (w / 16)) 0 (timesXs (4 * first) h)) ≡ bitXor z (multiply (halves (suc k) w) 0 (timesXs (4 * first) h))
-word-turn h first k w z r i ei er =
-    ap (λ (n : ℕ). bitXor n M) (er ∙ ap (bitXor z) entry)
+-- V from window to window
+pub next-window : (b k h v r : ℕ) → v ≡ timesXs (4 + b * k) h → r ≡ timesXs b v → r ≡ timesXs (4 + b * (k + 1)) h
+next-window b k h v r ev er = er ∙ ap (timesXs b) ev ∙ sym (timesXs-add (4 + b * k) b h) ∙ ap (λ (n : ℕ). timesXs n h) (next b k)
+
+pub next-place : (k s i : ℕ) → i ≡ 16 + k * s → i + s ≡ 16 + (k + 1) * s
+next-place k s i e =
+    ap (λ (n : ℕ). n + s) e ∙ add-assoc 16 (k * s) s ∙ ap (λ (n : ℕ). 16 + n) (sym (ap (λ (n : ℕ). n * s) (add-one k) ∙ suc-mul k s))
+
+-- ---- a word looked up, the last window first
+
+pub word-turn : (b k h w z r i n : ℕ) → n ≡ w % 2 ^ b → n < 2 ^ b → i ≡ 16 + k * 2 ^ b + n → r ≡ bitXor z (entryAt b h i)
+    → bitXor r (adds (4 + b * k) h (w / 2 ^ b)) ≡ bitXor z (adds (4 + b * (k + 1)) h w)
+word-turn b k h w z r i n en lt ei er =
+    ap (λ (m : ℕ). bitXor m M) (er ∙ ap (bitXor z) entry)
     ∙ xor-assoc z E M
-    ∙ ap (bitXor z) (xor-comm E M ∙ sym (multiply-halves k w v))
+    ∙ ap (bitXor z) (xor-comm E M ∙ sym (adds-window (4 + b * k) b h w) ∙ ap (λ (m : ℕ). adds m h w) (next b k))
   where
-    v : ℕ
-    v = timesXs (4 * first) h
-
     M : ℕ
-    M = multiply (halves k (w / 16)) 0 (timesXs (4 * first) h)
+    M = adds (4 + b * k) h (w / 2 ^ b)
 
     E : ℕ
-    E = multiply (halfBits (w % 16)) 0 (timesXs (4 * k) (timesXs (4 * first) h))
+    E = adds b (timesXs (4 + b * k) h) w
 
-    places : 4 * (first + k) ≡ 4 * first + 4 * k
-    places = omega arith
+    entry : entryAt b h i ≡ adds b (timesXs (4 + b * k) h) w
+    entry = ap (entryAt b h) ei ∙ entry-window b h k n lt ∙ ap (adds b (timesXs (4 + b * k) h)) en ∙ adds-mod b (timesXs (4 + b * k) h) w
 
-    entry : entryAt h i ≡ multiply (halfBits (w % 16)) 0 (timesXs (4 * k) (timesXs (4 * first) h))
-    entry =
-        entry-at h i (w % 16) (first + k) (omega arith) (omega arith)
-        ∙ ap (multiply (halfBits (w % 16)) 0) (ap (λ (n : ℕ). timesXs n h) places ∙ timesXs-add (4 * first) (4 * k) h)
-
-pub word-end : (k w z v : ℕ) → k ≡ 0 → bitXor z (multiply (halves k w) 0 v) ≡ z
-unfolding halves
-word-end k w z v e = ap (λ (n : ℕ). bitXor z (multiply (halves n w) 0 v)) e ∙ xor-zero-r z
+-- the first four bits
+pub word-end : (b h w z r i : ℕ) → i ≡ w % 2 ^ 4 → i < 16 → r ≡ bitXor z (entryAt b h i) → r ≡ bitXor z (adds 4 h w)
+word-end b h w z r i ei lt er = er ∙ ap (bitXor z) (entry-first b h i lt ∙ ap (adds 4 h) ei ∙ adds-mod 4 h w)
 
 -- ---- a block looked up by its two words
 
-pub times-words : (h : ℕ) (x : Wide) (front r : ℕ) → front ≡ bitXor 0 (multiply (halves 16 (x .high)) 0 (timesXs (4 * 0) h))
-    → r ≡ bitXor front (multiply (halves 16 (x .low)) 0 (timesXs (4 * 16) h)) → be 16 r ≡ timesH h (blockOf x)
+pub times-words : (h : ℕ) (x a b : Wide) → blockOf a ≡ be 16 (val a) → blockOf b ≡ be 16 (val b)
+    → val a ≡ adds 64 h (x .high) → val b ≡ adds 64 (timesXs 64 h) (x .low) → xors (blockOf a) (blockOf b) ≡ timesH h (blockOf x)
 unfolding timesH blockOf
-times-words h x front r ef er =
-    ap (be 16)
-    (er ∙ ap (λ (n : ℕ). bitXor n (multiply (halves 16 (x .low)) 0 (timesXs 64 h))) (ef ∙ xor-zero-l _) ∙ sym (multiply-words (x .high) (x .low) h))
+times-words h x a b ea eb va vb =
+    ap₂ xors ea eb ∙ sym (be-xor 16 (val a) (val b)) ∙ ap (be 16) (ap₂ bitXor va vb ∙ sym (multiply-words (x .high) (x .low) h))

@@ -1,6 +1,7 @@
 pub mod Wide
 pub mod Multiply
 pub mod Entries
+pub mod Windows
 pub mod Laws
 pub mod Hashed
 pub mod Vectors

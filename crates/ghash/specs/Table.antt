@@ -1,32 +1,62 @@
--- The table of H: what each half byte adds at each of the 32 places of a block.
--- Assumes nothing.
+-- The tables of H, one for each word of a block: what some bits at a time add. Assumes nothing.
 use mathlib.Core.Path.{_≡_}
+use mathlib.Core.Bool.{Bool, true, false}
 use mathlib.Core.List.{List, [], _∷_, _++_}
-use Prim.Native.Nat.{ℕ, zero, suc, _+_, _*_, _/_, _%_, _^_, _<_}
+use Prim.Native.Nat.{ℕ, zero, suc, _+_, _*_, _-_, _/_, _%_, _^_, _<_}
 use lib.Bits.{bitXor}
-use lib.ListN.{getD}
+use lib.Dec.{ltb}
+use lib.ListN.{length, getD}
+use Rattle.octets.specs.Lent.{when}
 use Rattle.ghash.specs.Field.{timesXs, multiply}
 
-abbrev pub halfBits : ℕ → List ℕ
-halfBits n = n / 8 % 2 ∷ n / 4 % 2 ∷ n / 2 % 2 ∷ n % 2 ∷ []
+-- the lowest b bits of n, the highest first
+unfoldable pub lowBits : ℕ → ℕ → List ℕ
+lowBits zero n = []
+lowBits (suc b) n = lowBits b (n / 2) ++ n % 2 ∷ []
 
--- the bits of n's lowest k half bytes, the highest first
-unfoldable pub halves : ℕ → ℕ → List ℕ
-halves zero n = []
-halves (suc k) n = halves k (n / 16) ++ halfBits (n % 16)
+-- what they add, with V at the first of them
+unfoldable pub adds : (b v n : ℕ) → ℕ
+adds b v n = multiply (lowBits b n) 0 v
 
--- the entry of place k and half byte n is at 16 * k + n
-unfoldable pub entryAt : ℕ → ℕ → ℕ
-entryAt h i = multiply (halfBits (i % 16)) 0 (timesXs (4 * (i / 16)) h)
+-- a word is four bits and then windows: of six bits in a fine table, and else of four
+abbrev pub width : Bool → ℕ
+width true = 6
+width false = 4
 
--- at the place that begins at base, p added to an entry below t makes the one that is t further on
-abbrev pub Sums : (h base t p : ℕ) → Type 0
-Sums h base t p = (m : ℕ) → m < t → entryAt h (base + t + m) ≡ bitXor (entryAt h (base + m)) p
+abbrev pub windows : Bool → ℕ
+windows true = 10
+windows false = 15
 
--- the entries below n are right; each stands in two words
-pub record Filled (h : ℕ) (high low : List ℕ) (n : ℕ) : Type 0 where
-  pub at : (i : ℕ) → i < n → getD high i 0 * 2 ^ 64 + getD low i 0 ≡ entryAt h i
+abbrev pub entries : Bool → ℕ
+entries fine = 16 + windows fine * 2 ^ width fine
 
--- and so are all
-abbrev pub TableOf : ℕ → List ℕ → List ℕ → Type 0
-TableOf h high low = Filled h high low 512
+-- the entry n of the first four bits is at n, and that of window k, of b bits, at 16 + k * 2^b + n
+unfoldable pub entryAt : (b h i : ℕ) → ℕ
+entryAt b h i = when (ltb i 16) (adds 4 h i) (adds b (timesXs (4 + b * ((i - 16) / 2 ^ b)) h) ((i - 16) % 2 ^ b))
+
+-- f has from base on the entries of a window of b bits
+abbrev pub Window : (f : ℕ → ℕ) (base b v : ℕ) → Type 0
+Window f base b v = (n : ℕ) → n < 2 ^ b → f (base + n) ≡ adds b v n
+
+-- from base on, p added to an entry below t makes the one that is t further on
+abbrev pub Sums : (f : ℕ → ℕ) (base t p : ℕ) → Type 0
+Sums f base t p = (n : ℕ) → n < t → f (base + t + n) ≡ bitXor (f (base + n)) p
+
+-- an entry stands in two words
+abbrev pub entryIn : List ℕ → ℕ → ℕ
+entryIn t i = getD t (2 * i) 0 * 2 ^ 64 + getD t (2 * i + 1) 0
+
+-- the entries below n are those of f
+pub record Filled (f : ℕ → ℕ) (t : List ℕ) (n : ℕ) : Type 0 where
+  pub at : (i : ℕ) → i < n → entryIn t i ≡ f i
+
+-- the table of a word, with V at its first bit
+abbrev pub WordTable : (fine : Bool) (v : ℕ) (t : List ℕ) → Type 0
+WordTable fine v t = Filled (entryAt (width fine) v) t (entries fine)
+
+-- and those of the two words of a block
+abbrev pub TablesOf : (fine : Bool) (h : ℕ) (front back : List ℕ) → Type 0
+TablesOf fine h front back = WordTable fine h front × WordTable fine (timesXs 64 h) back
+
+abbrev pub Room : Bool → List ℕ → Type 0
+Room fine t = length t ≡ 2 * entries fine

@@ -1,29 +1,57 @@
-// GHASH of GCM's parts, by a table of the hash key.
+// GHASH of GCM's parts, by tables of the hash key.
 use crate::running::absorb_text;
 use crate::running::close_block;
-use crate::table::fill_table;
+use crate::table::fill_tables;
 use crate::table::times_table;
 use crate::words::Wide;
 use crate::words::add_wide;
 use crate::words::block_of;
 use crate::words::wide_of;
 ghost use mathlib.Core.Path.{_≡_};
-ghost use mathlib.Core.List.{[], _∷_, _++_};
+ghost use mathlib.Core.List.{List, [], _∷_, _++_};
+ghost use Prim.Native.Nat.{ℕ};
+ghost use Rattle.octets.specs.BigEndian.{number};
 ghost use Rattle.octets.specs.Blocks.{cut};
 ghost use Rattle.ghash.specs.Ghash.{ghash};
+ghost use Rattle.ghash.specs.Table.{TablesOf, Room};
+
+// The length of text from which on fine tables are worth their making.
+const LONG: usize = 4096;
+
+// The hash with the key of the tables.
+fn hash_by(
+    front: &[u64],
+    back: &[u64],
+    fine: bool,
+    a: &[u8],
+    b: &[u8],
+    text: &[u8],
+    last: [u8; 16],
+) -> [u8; 16]
+    requires { ⌜ Room fine (now front) × Room fine (now back) ⌝ }
+    ensures { λ r. ⌜ ((h : List ℕ) → TablesOf fine (number h) (now (front .entry)) (now (back .entry)) → r ≡ ghash h (cut (now (a .entry) ++ now (b .entry)) ++ (cut (now (text .entry)) ++ (last ∷ [])))) ⌝ }
+{
+    let first = absorb_text(front, back, fine, Wide { high: 0, low: 0 }, 0, a);
+    let place = a.len() % 16;
+    let second = absorb_text(front, back, fine, first, place, b);
+    let closed = close_block(front, back, fine, second, (place + b.len() % 16) % 16);
+    let third = absorb_text(front, back, fine, closed, 0, text);
+    let whole = close_block(front, back, fine, third, text.len() % 16);
+    block_of(times_table(front, back, fine, add_wide(whole, wide_of(last))))
+}
 
 // The associated data in two parts, the text, each filled with zeros to whole blocks, and the last block.
 pub fn ghash_parts(h: [u8; 16], a: &[u8], b: &[u8], text: &[u8], last: [u8; 16]) -> [u8; 16]
     ensures { λ r. ⌜ r ≡ ghash h (cut (now (a .entry) ++ now (b .entry)) ++ (cut (now (text .entry)) ++ (last ∷ []))) ⌝ }
 {
-    let mut high: [u64; 512] = [0; 512];
-    let mut low: [u64; 512] = [0; 512];
-    fill_table(wide_of(h), &mut high, &mut low);
-    let first = absorb_text(&high, &low, Wide { high: 0, low: 0 }, 0, a);
-    let place = a.len() % 16;
-    let second = absorb_text(&high, &low, first, place, b);
-    let closed = close_block(&high, &low, second, (place + b.len() % 16) % 16);
-    let third = absorb_text(&high, &low, closed, 0, text);
-    let whole = close_block(&high, &low, third, text.len() % 16);
-    block_of(times_table(&high, &low, add_wide(whole, wide_of(last))))
+    if text.len() < LONG {
+        let mut front: [u64; 512] = [0; 512];
+        let mut back: [u64; 512] = [0; 512];
+        fill_tables(wide_of(h), &mut front, &mut back, false);
+        return hash_by(&front, &back, false, a, b, text, last);
+    }
+    let mut front: [u64; 1312] = [0; 1312];
+    let mut back: [u64; 1312] = [0; 1312];
+    fill_tables(wide_of(h), &mut front, &mut back, true);
+    hash_by(&front, &back, true, a, b, text, last)
 }

@@ -1,101 +1,178 @@
-// The field product by a table of H: what each half byte at each place of a block adds.
+// The field product by a table of H for each word of a block: what some bits of the word add at their place.
 use crate::words::Wide;
 use crate::words::add_wide;
 use crate::words::times_x;
 ghost use mathlib.Core.Path.{_≡_};
-ghost use Prim.Native.Nat.{ℕ, _+_, _*_, _/_, _%_, _≤_, _<_};
+ghost use Prim.Native.Nat.{ℕ, _+_, _*_, _/_, _%_, _^_, _≤_, _<_};
 ghost use lib.Bits.{bitXor};
 ghost use lib.ListN.{length};
-ghost use Rattle.ghash.specs.Field.{timesXs, multiply, timesH};
-ghost use Rattle.ghash.specs.Table.{halves, entryAt, Sums, Filled, TableOf};
+ghost use Rattle.ghash.specs.Field.{timesXs, timesH};
+ghost use Rattle.ghash.specs.Table.{adds, width, windows, entries, Window, Sums, entryIn, Filled, WordTable, TablesOf, Room};
 ghost use Rattle.ghash.specs.Words.{val, blockOf};
 
-// The entries whose highest bit is t, of the place that begins at base: p, the first of them, is added to each entry below t.
-fn extend(p: Wide, high: &mut [u64], low: &mut [u64], base: usize, t: usize)
-    requires { ⌜ (length (now high) ≡ 512) × (length (now low) ≡ 512) × (base + t + t ≤ 512) ⌝ }
-    ensures { λ _. ⌜ ((h : ℕ) → Sums h base t (val p) → Filled h (now (high .entry)) (now (low .entry)) (base + t) → Filled h (now (high .exit)) (now (low .exit)) (base + t + t)) ⌝ }
-    ensures { λ _. ⌜ (length (now (high .exit)) ≡ 512) × (length (now (low .exit)) ≡ 512) ⌝ }
+fn read_entry(table: &[u64], i: usize) -> Wide
+    requires { ⌜ 2 * i + 2 ≤ length (now table) ⌝ }
+    ensures { λ r. ⌜ val r ≡ entryIn (now (table .entry)) i ⌝ }
+{
+    Wide {
+        high: table[2 * i],
+        low: table[2 * i + 1],
+    }
+}
+
+fn write_entry(table: &mut [u64], i: usize, e: Wide)
+    requires { ⌜ 2 * i + 2 ≤ length (now table) ⌝ }
+    ensures { λ _. ⌜ ((f : ℕ → ℕ) → val e ≡ f i → Filled f (now (table .entry)) i → Filled f (now (table .exit)) (i + 1)) ⌝ }
+    ensures { λ _. ⌜ length (now (table .exit)) ≡ length (now (table .entry)) ⌝ }
+{
+    table[2 * i] = e.high;
+    table[2 * i + 1] = e.low;
+}
+
+// The entries whose highest bit is t, of the window that begins at base: p, the first of them, is added to each entry below t.
+fn extend(p: Wide, table: &mut [u64], base: usize, t: usize)
+    requires { ⌜ 2 * (base + t + t) ≤ length (now table) ⌝ }
+    ensures { λ _. ⌜ ((f : ℕ → ℕ) → Sums f base t (val p) → Filled f (now (table .entry)) (base + t) → Filled f (now (table .exit)) (base + t + t)) ⌝ }
+    ensures { λ _. ⌜ length (now (table .exit)) ≡ length (now (table .entry)) ⌝ }
 {
     let mut m = 0;
     while m < t {
-        high[base + t + m] = high[base + m] ^ p.high;
-        low[base + t + m] = low[base + m] ^ p.low;
+        write_entry(
+            table,
+            base + t + m,
+            add_wide(read_entry(table, base + m), p),
+        );
         m += 1;
     }
 }
 
-// The entries of the place that begins at base, with V there, and V of the next place.
-fn fill_place(v: Wide, high: &mut [u64], low: &mut [u64], base: usize) -> Wide
-    requires { ⌜ (length (now high) ≡ 512) × (length (now low) ≡ 512) × (base + 16 ≤ 512) × (base % 16 ≡ 0) ⌝ }
-    ensures { λ _. ⌜ ((h : ℕ) → val v ≡ timesXs (4 * (base / 16)) h → Filled h (now (high .entry)) (now (low .entry)) base → Filled h (now (high .exit)) (now (low .exit)) (base + 16)) ⌝ }
+// The entries of the four bits that begin at base, with V there, and V after them.
+fn fill_four(v: Wide, table: &mut [u64], base: usize) -> Wide
+    requires { ⌜ 2 * (base + 16) ≤ length (now table) ⌝ }
+    ensures { λ _. ⌜ ((f : ℕ → ℕ) → Window f base 4 (val v) → Filled f (now (table .entry)) base → Filled f (now (table .exit)) (base + 16)) ⌝ }
     ensures { λ r. ⌜ val r ≡ timesXs 4 (val v) ⌝ }
-    ensures { λ _. ⌜ (length (now (high .exit)) ≡ 512) × (length (now (low .exit)) ≡ 512) ⌝ }
+    ensures { λ _. ⌜ length (now (table .exit)) ≡ length (now (table .entry)) ⌝ }
 {
     let v1 = times_x(v);
     let v2 = times_x(v1);
     let v3 = times_x(v2);
-    high[base] = 0;
-    low[base] = 0;
-    extend(v3, high, low, base, 1);
-    extend(v2, high, low, base, 2);
-    extend(v1, high, low, base, 4);
-    extend(v, high, low, base, 8);
+    write_entry(table, base, Wide { high: 0, low: 0 });
+    extend(v3, table, base, 1);
+    extend(v2, table, base, 2);
+    extend(v1, table, base, 4);
+    extend(v, table, base, 8);
     times_x(v3)
 }
 
-pub(crate) fn fill_table(h: Wide, high: &mut [u64], low: &mut [u64])
-    requires { ⌜ (length (now high) ≡ 512) × (length (now low) ≡ 512) ⌝ }
-    ensures { λ _. ⌜ TableOf (val h) (now (high .exit)) (now (low .exit)) ⌝ }
+// The same of a window.
+fn fill_window(v: Wide, table: &mut [u64], base: usize, fine: bool) -> Wide
+    requires { ⌜ 2 * (base + 2 ^ width fine) ≤ length (now table) ⌝ }
+    ensures { λ _. ⌜ ((f : ℕ → ℕ) → Window f base (width fine) (val v) → Filled f (now (table .entry)) base → Filled f (now (table .exit)) (base + 2 ^ width fine)) ⌝ }
+    ensures { λ r. ⌜ val r ≡ timesXs (width fine) (val v) ⌝ }
+    ensures { λ _. ⌜ length (now (table .exit)) ≡ length (now (table .entry)) ⌝ }
 {
-    let mut v = h;
-    let mut base = 0;
-    while base < 512 {
-        v = fill_place(v, high, low, base);
-        base += 16;
+    if !fine {
+        return fill_four(v, table, base);
     }
+    let v1 = times_x(v);
+    let next = fill_four(times_x(v1), table, base);
+    extend(v1, table, base, 16);
+    extend(v, table, base, 32);
+    next
 }
 
-// The sum of z and an entry.
-fn add_entry(z: Wide, high: &[u64; 512], low: &[u64; 512], i: usize) -> Wide
-    requires { ⌜ i < 512 ⌝ }
-    ensures { λ r. ⌜ ((h : ℕ) → TableOf h (now (high .entry)) (now (low .entry)) → val r ≡ bitXor (val z) (entryAt h i)) ⌝ }
+// The number of windows.
+fn count(fine: bool) -> usize
+    ensures { λ r. ⌜ r ≡ windows fine ⌝ }
 {
-    add_wide(
-        z,
-        Wide {
-            high: high[i],
-            low: low[i],
-        },
-    )
+    if fine {
+        return 10;
+    }
+    15
 }
 
-// The lowest half byte of a word.
-fn half(w: u64) -> usize
-    ensures { λ r. ⌜ (r ≡ w % 16) × (r < 16) ⌝ }
+// Where the window k begins.
+fn place(k: usize, fine: bool) -> usize
+    requires { ⌜ k < windows fine ⌝ }
+    ensures { λ r. ⌜ (r ≡ 16 + k * 2 ^ width fine) × (r + 2 ^ width fine ≤ entries fine) ⌝ }
 {
+    if fine {
+        return 16 + k * 64;
+    }
+    16 + k * 16
+}
+
+// The last window of a word.
+fn last_window(w: u64, fine: bool) -> usize
+    ensures { λ r. ⌜ (r ≡ w % 2 ^ width fine) × (r < 2 ^ width fine) ⌝ }
+{
+    if fine {
+        return (w % 64) as usize;
+    }
     (w % 16) as usize
 }
 
-// The sum of z and what the half bytes of a word add, the first of them at the place `first`; the last one is looked up first.
-fn add_word(z: Wide, high: &[u64; 512], low: &[u64; 512], w: u64, first: usize) -> Wide
-    requires { ⌜ first + 16 ≤ 32 ⌝ }
-    ensures { λ r. ⌜ ((h : ℕ) → TableOf h (now (high .entry)) (now (low .entry)) → val r ≡ bitXor (val z) (multiply (halves 16 w) 0 (timesXs (4 * first) h))) ⌝ }
+// The word without it.
+fn other_windows(w: u64, fine: bool) -> u64
+    ensures { λ r. ⌜ r ≡ w / 2 ^ width fine ⌝ }
 {
-    let mut sum = z;
-    let mut left = w;
-    let mut k = 16;
-    while k > 0 {
-        k -= 1;
-        sum = add_entry(sum, high, low, 16 * (first + k) + half(left));
-        left = left / 16;
+    if fine {
+        return w / 64;
     }
-    sum
+    w / 16
 }
 
-// The product of a block with H.
-pub(crate) fn times_table(high: &[u64; 512], low: &[u64; 512], x: Wide) -> Wide
-    ensures { λ r. ⌜ ((h : ℕ) → TableOf h (now (high .entry)) (now (low .entry)) → blockOf r ≡ timesH h (blockOf x)) ⌝ }
+// The table of a word, with V at its first bit, and V after it.
+fn fill_word(v: Wide, table: &mut [u64], fine: bool) -> Wide
+    requires { ⌜ Room fine (now table) ⌝ }
+    ensures { λ _. ⌜ WordTable fine (val v) (now (table .exit)) ⌝ }
+    ensures { λ r. ⌜ val r ≡ timesXs 64 (val v) ⌝ }
+    ensures { λ _. ⌜ length (now (table .exit)) ≡ length (now (table .entry)) ⌝ }
 {
-    let front = add_word(Wide { high: 0, low: 0 }, high, low, x.high, 0);
-    add_word(front, high, low, x.low, 16)
+    let mut next = fill_four(v, table, 0);
+    let mut k = 0;
+    while k < count(fine) {
+        next = fill_window(next, table, place(k, fine), fine);
+        k += 1;
+    }
+    next
+}
+
+pub(crate) fn fill_tables(h: Wide, front: &mut [u64], back: &mut [u64], fine: bool)
+    requires { ⌜ Room fine (now front) × Room fine (now back) ⌝ }
+    ensures { λ _. ⌜ TablesOf fine (val h) (now (front .exit)) (now (back .exit)) ⌝ }
+    ensures { λ _. ⌜ Room fine (now (front .exit)) × Room fine (now (back .exit)) ⌝ }
+{
+    let v = fill_word(h, front, fine);
+    fill_word(v, back, fine);
+}
+
+// What a word adds, the last window looked up first.
+fn sum_word(table: &[u64], w: u64, fine: bool) -> Wide
+    requires { ⌜ Room fine (now table) ⌝ }
+    ensures { λ r. ⌜ ((v : ℕ) → WordTable fine v (now (table .entry)) → val r ≡ adds 64 v w) ⌝ }
+{
+    let mut sum = Wide { high: 0, low: 0 };
+    let mut left = w;
+    let mut k = count(fine);
+    while k > 0 {
+        k -= 1;
+        sum = add_wide(
+            sum,
+            read_entry(table, place(k, fine) + last_window(left, fine)),
+        );
+        left = other_windows(left, fine);
+    }
+    add_wide(sum, read_entry(table, last_window(left, false)))
+}
+
+// The product of a block with H. The two kinds of tables are told apart here, once a block, so that each sum has its numbers fixed.
+pub(crate) fn times_table(front: &[u64], back: &[u64], fine: bool, x: Wide) -> Wide
+    requires { ⌜ Room fine (now front) × Room fine (now back) ⌝ }
+    ensures { λ r. ⌜ ((h : ℕ) → TablesOf fine h (now (front .entry)) (now (back .entry)) → blockOf r ≡ timesH h (blockOf x)) ⌝ }
+{
+    if fine {
+        return add_wide(sum_word(front, x.high, true), sum_word(back, x.low, true));
+    }
+    add_wide(sum_word(front, x.high, false), sum_word(back, x.low, false))
 }

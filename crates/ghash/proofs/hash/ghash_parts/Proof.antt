@@ -1,39 +1,28 @@
--- `ghash::hash::ghash_parts` meets its contract: the states from part to part are those of the running chain.
+-- `ghash::hash::ghash_parts` meets its contract: by either kind of tables it is the same hash.
 -- Assumes nothing.
-use mathlib.Core.Path.{ap, _∙_}
-use Prim.Native.Nat.{ℕ}
+use mathlib.Core.Bool.{true, false}
 use borrow.Author.Needs.{needs}
-use Rattle.octets.specs.Xor.{xors}
-use Rattle.ghash.specs.Words.{val, blockOf}
-use Rattle.ghash.proofs.Hashed.{hashed-parts}
+use Rattle.ghash.proofs.Windows.{tables-key}
 use Rattle.ghash.proofs.hash.ghash_parts.Statement.{statement}
 use Rattle.ghash.proofs.hash.ghash_parts.Tie as tie
 
 returns : tie.Need-returns
-unfolding blockOf
 returns c =
-    let times = c .before in
-    let sum = times .before in
-    let end = sum .before in
-    let whole = end .before .before .before in
-    let third = whole .before .before .before in
-    let closed = third .before .before .before in
-    let second = closed .before .before .before in
-    let first = second .before .before .before in
-    let table = first .before .before .before .before .before in
-    let key = table .before .before .before in
-    let a = key .before .before .before .before .args in
-    let H = key .wide-of .result in
-    let t = table .fill-table .ensures in
-    c .block-of .ensures
-    ∙ hashed-parts (a .h) (val H) (key .wide-of .ensures .1) (a .a .now) (a .b .now) (a .text .now) _ _ _ _ _ _ _ _
-    (first .absorb-text .ensures (val H) t) (second .absorb-text2 .ensures (val H) t) (closed .close-block .ensures (val H) t)
-    (third .absorb-text3 .ensures (val H) t) (whole .close-block2 .ensures (val H) t)
-    (sum .add-wide .ensures .1 ∙ ap (xors (blockOf (whole .close-block2 .result))) (end .wide-of2 .ensures .0)) (times .times-table .ensures (val H) t)
+    let filled = c .before .before .before .before .before in
+    let key = filled .before .before .before in
+    let a = key .before .before .before .before .before .args in
+    c .hash-by .ensures (a .h) (tables-key false _ _ _ _ (key .wide-of .ensures .1) (filled .fill-tables .ensures .0))
+
+returns-2 : tie.Need-returns-2
+returns-2 c =
+    let filled = c .before .before .before .before .before in
+    let key = filled .before .before .before in
+    let a = key .before .before .before .before .before .args in
+    c .hash-by2 .ensures (a .h) (tables-key true _ _ _ _ (key .wide-of2 .ensures .1) (filled .fill-tables2 .ensures .0))
 
 pub ghash-parts-spec : {M : Type 1} → statement M
 ghash-parts-spec =
     tie.close
-    (tie.spec (λ c κs. search needs) (λ c. search needs) (λ c. search needs) (λ c κs. search needs) (λ c κs. search needs)
-    (λ c κs. search needs) (λ c. search needs) (λ c κs. search needs) (λ c κs. search needs) (λ c κs. search needs) (λ c κs. search needs)
-    (λ c κs. search needs) (λ c κs. search needs) (λ c κs. search needs) returns)
+    (tie.spec (λ c κs. search needs) (λ c. search needs) (λ c. search needs) (λ c κs. search needs) (λ c. search needs) (λ c. search needs)
+    (λ c κs. search needs) returns (λ c κs. search needs) (λ c. search needs) (λ c. search needs) (λ c κs. search needs) (λ c. search needs)
+    (λ c. search needs) (λ c κs. search needs) returns-2)

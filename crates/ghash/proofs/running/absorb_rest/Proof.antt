@@ -7,19 +7,19 @@ use borrow.Author.Needs.{needs}
 use lib.ListN.{length, drop, length-take, length-drop}
 use Rattle.octets.specs.Running.{absorb}
 use Rattle.ghash.specs.Field.{timesH}
-use Rattle.ghash.specs.Table.{TableOf}
+use Rattle.ghash.specs.Table.{TablesOf}
 use Rattle.ghash.specs.Words.{blockOf}
 use Rattle.ghash.proofs.Hashed.{absorb-block-at, absorb-last}
 use Rattle.ghash.proofs.running.absorb_rest.Statement.{statement}
 use Rattle.ghash.proofs.running.absorb_rest.Tie as tie
 
 abbrev Inv-loop : tie.InvT-loop
-Inv-loop high low text from s₀ at₀ s at =
+Inv-loop front back fine text from s₀ at₀ s at =
     (at ≤ length text)
-    × ((h : ℕ) → TableOf h high low → absorb (timesH h) 0 (blockOf s) (drop at text) ≡ absorb (timesH h) 0 (blockOf s₀) (drop at₀ text))
+    × ((h : ℕ) → TablesOf fine h front back → absorb (timesH h) 0 (blockOf s) (drop at text) ≡ absorb (timesH h) 0 (blockOf s₀) (drop at₀ text))
 
 abbrev μ-loop : tie.MeasureT-loop
-μ-loop high low text from s₀ at₀ s at = length text - at
+μ-loop front back fine text from s₀ at₀ s at = length text - at
 
 loop-holds : tie.Need-loop-holds Inv-loop μ-loop
 loop-holds c = (omega arith, λ h t. refl)
@@ -28,7 +28,7 @@ loop-again : tie.Need-loop-again Inv-loop μ-loop
 loop-again c =
     let at-loop = c .before .before .before .before in
     let l = at-loop .loop in
-    let a = at-loop .before .before .args in (
+    let a = at-loop .before .before .before .before .args in (
       omega arith,
       λ h t.
           absorb-block-at h (l .s) (c .before .before .wide-at .result) (c .before .add-wide .result) (c .times-table .result) (a .text .now) (l .at)
@@ -42,7 +42,7 @@ add-part-requires c κs = simp (length-take, length-drop) (omega arith)
 returns : tie.Need-returns Inv-loop μ-loop
 returns c = λ h t.
     let l = c .before .before .before .loop in
-    let a = c .before .before .before .before .before .args in
+    let a = c .before .before .before .before .before .before .before .args in
     c .add-part .ensures ∙ absorb-last h (l .s) (a .text .now) (l .at) (omega arith) ∙ l .inv .1 h t
 
 pub absorb-rest-spec : {M : Type 1} → statement M

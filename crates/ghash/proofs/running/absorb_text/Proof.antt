@@ -16,12 +16,12 @@ use Rattle.ghash.proofs.running.absorb_text.Tie as tie
 
 returns : tie.Need-returns
 returns c = λ h t.
-    let a = c .before .before .before .args in
+    let a = c .before .before .before .before .before .args in
     c .absorb-rest .ensures h t ∙ ap (λ (k : ℕ). absorb (timesH h) k (blockOf (a .y)) (a .text .now)) (sym (c .before .if1 .taken))
 
 returns-2 : tie.Need-returns-2
 returns-2 c = λ h t.
-    let a = c .before .before .before .before .args in
+    let a = c .before .before .before .before .before .before .args in
     c .add-part .ensures ∙ sym (absorb-within (timesH h) (a .k) (blockOf (a .y)) (a .text .now) (length-blockOf (a .y)) (omega arith))
 
 add-part-requires-2 : tie.Need-add-part-requires-2
@@ -31,8 +31,9 @@ returns-3 : tie.Need-returns-3
 returns-3 c = λ h t.
     let whole = c .before .times-table in
     let part = c .before .before .add-part2 in
-    let a = c .before .before .before .before .before .before .before .args in
-    absorb-over h (a .y) (part .result) (whole .result) _ (a .text .now) (a .k) (16 - a .k) (16 - a .k - 0) (omega arith) refl (omega arith) (omega arith)
+    let s = c .before .before .before .before .before .before .before .before .before in
+    let a = s .args in
+    absorb-over h (a .y) (part .result) (whole .result) _ (a .text .now) (a .k) (16 - a .k) (16 - a .k - 0) (s .pre .2) refl (omega arith) (omega arith)
     (part .ensures) (whole .ensures h t) (c .absorb-rest2 .ensures h t)
 
 pub absorb-text-spec : {M : Type 1} → statement M

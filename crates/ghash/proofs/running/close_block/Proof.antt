@@ -12,12 +12,12 @@ use Rattle.ghash.proofs.running.close_block.Tie as tie
 
 returns : tie.Need-returns
 returns c = λ h t.
-    let a = c .before .args in
+    let a = c .before .before .before .args in
     sym (ap (λ (b : Bool). when b (blockOf (a .y)) (timesH h (blockOf (a .y)))) (eq-eqb (a .k) 0 (c .if1 .taken)))
 
 returns-2 : tie.Need-returns-2
 returns-2 c = λ h t.
-    let a = c .before .before .args in
+    let a = c .before .before .before .before .args in
     c .times-table .ensures h t
     ∙ sym (ap (λ (b : Bool). when b (blockOf (a .y)) (timesH h (blockOf (a .y)))) (ne-eqb (a .k) 0 (c .before .if1 .left)))
 
