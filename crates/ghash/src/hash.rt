@@ -40,18 +40,32 @@ fn hash_by(
     block_of(times_table(front, back, fine, add_wide(whole, wide_of(last))))
 }
 
+// Each kind of tables has a function of its own, so that the two may have the same place on the stack.
+fn hash_short(h: [u8; 16], a: &[u8], b: &[u8], text: &[u8], last: [u8; 16]) -> [u8; 16]
+    ensures { λ r. ⌜ r ≡ ghash h (cut (now (a .entry) ++ now (b .entry)) ++ (cut (now (text .entry)) ++ (last ∷ []))) ⌝ }
+{
+    let mut front: [u64; 512] = [0; 512];
+    let mut back: [u64; 512] = [0; 512];
+    fill_tables(wide_of(h), &mut front, &mut back, false);
+    hash_by(&front, &back, false, a, b, text, last)
+}
+
+// The same by fine tables.
+fn hash_long(h: [u8; 16], a: &[u8], b: &[u8], text: &[u8], last: [u8; 16]) -> [u8; 16]
+    ensures { λ r. ⌜ r ≡ ghash h (cut (now (a .entry) ++ now (b .entry)) ++ (cut (now (text .entry)) ++ (last ∷ []))) ⌝ }
+{
+    let mut front: [u64; 1312] = [0; 1312];
+    let mut back: [u64; 1312] = [0; 1312];
+    fill_tables(wide_of(h), &mut front, &mut back, true);
+    hash_by(&front, &back, true, a, b, text, last)
+}
+
 // The associated data in two parts, the text, each filled with zeros to whole blocks, and the last block.
 pub fn ghash_parts(h: [u8; 16], a: &[u8], b: &[u8], text: &[u8], last: [u8; 16]) -> [u8; 16]
     ensures { λ r. ⌜ r ≡ ghash h (cut (now (a .entry) ++ now (b .entry)) ++ (cut (now (text .entry)) ++ (last ∷ []))) ⌝ }
 {
     if text.len() < LONG {
-        let mut front: [u64; 512] = [0; 512];
-        let mut back: [u64; 512] = [0; 512];
-        fill_tables(wide_of(h), &mut front, &mut back, false);
-        return hash_by(&front, &back, false, a, b, text, last);
+        return hash_short(h, a, b, text, last);
     }
-    let mut front: [u64; 1312] = [0; 1312];
-    let mut back: [u64; 1312] = [0; 1312];
-    fill_tables(wide_of(h), &mut front, &mut back, true);
-    hash_by(&front, &back, true, a, b, text, last)
+    hash_long(h, a, b, text, last)
 }
