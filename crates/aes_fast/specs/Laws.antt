@@ -1,14 +1,16 @@
 -- What a call of the fast way says, and what it promises to the crates above it, as statements; proofs/Laws.antt proves each.
 -- Assumes nothing.
 use mathlib.Core.Path.{_≡_}
-use Prim.Native.Nat.{ℕ}
+use Prim.Native.Nat.{ℕ, _<_}
 use mathlib.Core.List.{List, [], _∷_}
+use lib.ListN.{length}
 use Rattle.octets.specs.Bytes.{Bytes}
 use Rattle.aes.specs.State.{State}
 use Rattle.aes.specs.Cipher.{cipher}
 use Rattle.aes.specs.KeyExpansion.{schedule}
 use Rattle.aes_fast.specs.ByTables.{Tables, cipherBy}
 use Rattle.aes_fast.specs.Right.{roundTables, Right, Ready}
+use Rattle.aes_fast.specs.Start.{withLast, startBy, cipherFrom}
 
 -- r is the block b ciphered: by the lent tables and round keys, whatever they are, and so by FIPS 197 where the tables are the right ones and the keys are bytes
 pub record Ciphered (t : Tables) (ks : List State) (b r : List ℕ) : Type 0 where
@@ -34,3 +36,13 @@ CipheredUnique = (t : Tables) (ks : List State) (b r r′ : List ℕ) → Cipher
 
 abbrev pub CipheredTwoUnique : Type 0
 CipheredTwoUnique = (t : Tables) (ks : List State) (a b : List ℕ) (r r′ : List (List ℕ)) → CipheredTwo t ks a b r → CipheredTwo t ks a b r′ → r ≡ r′
+
+-- with ready tables and keys it is the cipher
+abbrev pub ReadyCipher : Type 0
+ReadyCipher = (t : Tables) (ks : List State) (b : List ℕ) → Ready t ks → Bytes b → length b ≡ 16 → cipherBy t ks b ≡ cipher ks b
+
+-- from a start on it is the cipher of the block with that last byte
+abbrev pub FromStart : Type 0
+FromStart =
+    (t : Tables) (ks : List State) (b : List ℕ) (low : ℕ) → Ready t ks → Bytes b → length b ≡ 16 → low < 256
+    → cipherFrom t ks (startBy t ks b) low ≡ cipher ks (withLast b low)
