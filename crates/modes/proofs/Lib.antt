@@ -1,6 +1,8 @@
 mod Written
+mod Bytewise
 pub mod Limits
 pub mod Stream
+mod Grouped
 pub mod Chained
 pub mod Formatted
 pub mod Opened

@@ -6,3 +6,4 @@ pub mod gcm;
 mod lengths;
 mod parts;
 mod tag;
+mod words;
