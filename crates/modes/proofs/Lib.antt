@@ -3,6 +3,7 @@ mod Bytewise
 pub mod Limits
 pub mod Stream
 mod Grouped
+mod Beside
 pub mod Chained
 pub mod Formatted
 pub mod Opened

@@ -113,6 +113,11 @@ module _ {f : List ℕ → List ℕ} {w : ℕ} {front : List ℕ} {i : ℕ} {s b
   pub partly-again : {at k : ℕ} {out : List ℕ} → Partly f w front i s before at k out → Partly f w front i s out at k out
   partly-again p = record { inside = p .inside; room = refl; counted = p .counted; written = p .written; kept = refl }
 
+  -- a part of it from there on, as it is lent
+  pub partly-part : {at k : ℕ} {out : List ℕ} → Partly f w front i s before at k out → length s ≤ length before → (e : ℕ) → e ≤ length s
+      → length (take (e - at) (drop at out)) ≡ e - at
+  partly-part {at} {k} {out} p fits e le = part-length out at e (omega (arith, p .room))
+
   module _ {at k : ℕ} {out : List ℕ} (p : Partly f w front i s before at k out) (fits : length s ≤ length before) (size : (x : List ℕ) → length (f x) ≡ 16) where
     -- m blocks more, or all that there is, up to place e
     pub partly-turn : (m e : ℕ) {ys : List ℕ} → at + m ≤ e → e ≤ length s → (e < length s → e ≡ at + 16 * m)

@@ -5,5 +5,6 @@ mod counter;
 pub mod gcm;
 mod lengths;
 mod parts;
+mod passes;
 mod tag;
 mod words;
