@@ -105,7 +105,10 @@ halvesBlock-words h = words (h .first) (h .second)
         )
 
 pub length-halvesBlock : (h : Halves) → length (halvesBlock h) ≡ 16
-length-halvesBlock h = rw (halvesBlock-words h, length-append, length-wordBytes, length-wordBytes) refl
+length-halvesBlock h =
+    ap length (halvesBlock-words h)
+    ∙ length-append (wordBytes (h .first)) (wordBytes (h .second))
+    ∙ ap₂ _+_ (length-wordBytes (h .first)) (length-wordBytes (h .second))
 
 pub bytes-halvesBlock : (h : Halves) → Bytes (halvesBlock h)
 bytes-halvesBlock h = rw (halvesBlock-words h) (bytes-append (bytes-wordBytes (h .first)) (bytes-wordBytes (h .second)))

@@ -22,10 +22,8 @@ use Rattle.octets.proofs.Xor.{length-xors, xors-cancel}
 use Rattle.octets.proofs.Same.{same-equal, same-refl, same-differ}
 use Rattle.octets.proofs.Blocks.{cut-next, chain-append, length-chain}
 use Rattle.octets.proofs.Running.{absorb-append, close-chain}
-use Rattle.modes.specs.Counter.{counterBlock, ctr, counterAnswer, frontOf}
+use Rattle.modes.specs.Counter.{counterBlock, ctr, frontOf}
 use Rattle.modes.specs.Ccm.{flags, firstBlock, dataBlocks, mac, front, firstPad, text, tagOf, tagRight}
-use Rattle.modes.specs.Calls.{textMax}
-use Rattle.modes.proofs.Limits.{counterFits-three, counterAnswer-fits}
 use Rattle.modes.proofs.Stream.{length-ctr, ctr-ctr}
 use Rattle.octets.proofs.Lent.{over-then}
 

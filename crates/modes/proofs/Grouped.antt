@@ -1,6 +1,6 @@
 -- Counter blocks that differ in the last byte alone: one start gives all their pads.
 -- Assumes nothing.
-use mathlib.Core.Path.{_≡_, refl, sym, ap, ap₂, _∙_}
+use mathlib.Core.Path.{_≡_, sym, ap, ap₂, _∙_}
 use mathlib.Core.Bool.{Bool, true, false}
 use mathlib.Core.List.{List, [], _∷_, _++_, append-assoc}
 use Prim.Native.Nat.{ℕ, suc, _+_, _*_, _/_, _%_, _≤_, _<_}
@@ -12,7 +12,6 @@ use lib.Seq.{take-at, length-take-le}
 use Rattle.octets.specs.Bytes.{Bytes}
 use Rattle.octets.specs.BigEndian.{be}
 use Rattle.octets.specs.Xor.{xors}
-use Rattle.octets.proofs.Xor.{length-xors}
 use Rattle.octets.proofs.BigEndian.{length-be, be-last}
 use Rattle.aes.specs.State.{State}
 use Rattle.aes.specs.Cipher.{cipher}

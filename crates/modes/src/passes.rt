@@ -59,7 +59,8 @@ fn seal_block(
 {
     let x = halves_at(p, 0);
     let both = encrypt_beside(t, ks, add_halves(y, x), s, low);
-    put_halves(out, add_halves(x, both.other));
+    let done = add_halves(x, both.other);
+    put_halves(out, done);
     both.one
 }
 

@@ -1,6 +1,6 @@
 -- `modes::passes::seal_block` meets its contract: by what each call ensures.
 -- Assumes nothing.
-use mathlib.Core.Path.{_≡_, ap, ap₂, _∙_}
+use mathlib.Core.Path.{ap, ap₂, _∙_}
 use native.Mathlib.Omega.{arith}
 use borrow.Author.Needs.{needs}
 use lib.Seq.{take-all}
@@ -15,8 +15,8 @@ use Rattle.modes.proofs.passes.seal_block.Tie as tie
 returns : tie.Need-returns
 returns c =
     let put = c .before .before .before in
-    let added = put .before in
-    let ciphered = added .before .before in
+    let added = put .before .before in
+    let ciphered = added .before in
     let summed = ciphered .before in
     let read = summed .before in
     let start = read .before .before .before in

@@ -13,7 +13,7 @@ use Rattle.octets.proofs.Lent.{over-whole}
 use Rattle.aes.specs.Cipher.{cipher}
 use Rattle.aes.proofs.Laws.{cipher-length}
 use Rattle.aes_fast.specs.Halves.{halvesBlock}
-use Rattle.modes.specs.Counter.{ctr, frontOf}
+use Rattle.modes.specs.Counter.{frontOf}
 use Rattle.modes.specs.Pads.{Serves}
 use Rattle.modes.proofs.Written.{part-length}
 use Rattle.modes.proofs.Stream.{Partly, partly-start, partly-turn, partly-end, ctr-last, length-ctr}

@@ -1,19 +1,16 @@
 -- `modes::passes::seal_text` meets its contract: the whole blocks, and then the rest.
 -- Assumes nothing.
-use mathlib.Core.Path.{_≡_, sym, ap, _∙_}
+use mathlib.Core.Path.{sym, _∙_}
 use mathlib.Core.Bool.{false}
-use mathlib.Core.List.{List}
-use Prim.Native.Nat.{ℕ, _+_, _-_, _*_, _/_, _%_}
+use Prim.Native.Nat.{ℕ, _+_, _-_, _/_, _%_}
 use native.Mathlib.Omega.{arith}
 use borrow.Author.Needs.{needs}
-use lib.ListN.{length, take, drop, length-take, length-drop}
-use Rattle.octets.specs.Blocks.{cut, chain}
-use Rattle.octets.proofs.Tests.{rest-all}
+use lib.ListN.{length}
 use Rattle.aes.specs.Cipher.{cipher}
 use Rattle.aes.proofs.Laws.{cipher-length}
-use Rattle.modes.specs.Counter.{ctr, frontOf}
+use Rattle.modes.specs.Counter.{frontOf}
 use Rattle.modes.proofs.Written.{part-length}
-use Rattle.modes.proofs.Stream.{Partly, partly-start, partly-part, partly-turn, partly-end}
+use Rattle.modes.proofs.Stream.{partly-start, partly-part, partly-turn, partly-end}
 use Rattle.modes.proofs.Beside.{chain-whole}
 use Rattle.modes.proofs.passes.seal_text.Statement.{statement}
 use Rattle.modes.proofs.passes.seal_text.Tie as tie

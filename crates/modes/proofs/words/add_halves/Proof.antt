@@ -1,11 +1,7 @@
--- `modes::words::add_halves` meets its contract.
+-- `modes::words::add_halves` meets its contract: word by word.
 -- Assumes nothing.
 use mathlib.Core.Path.{refl}
-use native.Mathlib.Omega.{arith}
-use borrow.Author.Needs.{needs}
-use lib.ListN.{length-set}
-use Rattle.modes.proofs.Written.{block-from}
-use Rattle.modes.proofs.Bytewise.{wordBytes-number, word-stored, halvesBlock-xor, halvesBlock-at, halves-written}
+use Rattle.modes.proofs.Bytewise.{halvesBlock-xor}
 use Rattle.modes.proofs.words.add_halves.Statement.{statement}
 use Rattle.modes.proofs.words.add_halves.Tie as tie
 

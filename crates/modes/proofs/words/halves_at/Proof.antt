@@ -1,11 +1,7 @@
--- `modes::words::halves_at` meets its contract.
+-- `modes::words::halves_at` meets its contract: by its two words.
 -- Assumes nothing.
-use mathlib.Core.Path.{_∙_}
-use native.Mathlib.Omega.{arith}
 use borrow.Author.Needs.{needs}
-use lib.ListN.{length-set}
-use Rattle.modes.proofs.Written.{block-from}
-use Rattle.modes.proofs.Bytewise.{wordBytes-number, word-stored, halvesBlock-xor, halvesBlock-at, halves-written}
+use Rattle.modes.proofs.Bytewise.{halvesBlock-at}
 use Rattle.modes.proofs.words.halves_at.Statement.{statement}
 use Rattle.modes.proofs.words.halves_at.Tie as tie
 

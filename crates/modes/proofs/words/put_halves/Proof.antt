@@ -1,11 +1,7 @@
--- `modes::words::put_halves` meets its contract.
+-- `modes::words::put_halves` meets its contract: a word after the other.
 -- Assumes nothing.
-use mathlib.Core.Path.{_∙_}
-use native.Mathlib.Omega.{arith}
 use borrow.Author.Needs.{needs}
-use lib.ListN.{length-set}
-use Rattle.modes.proofs.Written.{block-from}
-use Rattle.modes.proofs.Bytewise.{wordBytes-number, word-stored, halvesBlock-xor, halvesBlock-at, halves-written}
+use Rattle.modes.proofs.Bytewise.{halves-written}
 use Rattle.modes.proofs.words.put_halves.Statement.{statement}
 use Rattle.modes.proofs.words.put_halves.Tie as tie
 

@@ -1,11 +1,8 @@
--- `modes::words::word_at` meets its contract.
+-- `modes::words::word_at` meets its contract: the eight bytes, as they are read.
 -- Assumes nothing.
 use mathlib.Core.Path.{_∙_}
-use native.Mathlib.Omega.{arith}
 use borrow.Author.Needs.{needs}
-use lib.ListN.{length-set}
 use Rattle.modes.proofs.Written.{block-from}
-use Rattle.modes.proofs.Bytewise.{wordBytes-number, word-stored, halvesBlock-xor, halvesBlock-at, halves-written}
 use Rattle.modes.proofs.words.word_at.Statement.{statement}
 use Rattle.modes.proofs.words.word_at.Tie as tie
 

@@ -1,11 +1,8 @@
--- `modes::words::word_of` meets its contract.
+-- `modes::words::word_of` meets its contract: the number that eight bytes make has them for its bytes.
 -- Assumes nothing.
-use mathlib.Core.Path.{_∙_}
 use native.Mathlib.Omega.{arith}
 use borrow.Author.Needs.{needs}
-use lib.ListN.{length-set}
-use Rattle.modes.proofs.Written.{block-from}
-use Rattle.modes.proofs.Bytewise.{wordBytes-number, word-stored, halvesBlock-xor, halvesBlock-at, halves-written}
+use Rattle.modes.proofs.Bytewise.{wordBytes-number}
 use Rattle.modes.proofs.words.word_of.Statement.{statement}
 use Rattle.modes.proofs.words.word_of.Tie as tie
 

@@ -1,11 +1,9 @@
--- `modes::words::write_word` meets its contract.
+-- `modes::words::write_word` meets its contract: eight stores, one after the other.
 -- Assumes nothing.
-use mathlib.Core.Path.{_∙_}
 use native.Mathlib.Omega.{arith}
 use borrow.Author.Needs.{needs}
 use lib.ListN.{length-set}
-use Rattle.modes.proofs.Written.{block-from}
-use Rattle.modes.proofs.Bytewise.{wordBytes-number, word-stored, halvesBlock-xor, halvesBlock-at, halves-written}
+use Rattle.modes.proofs.Bytewise.{word-stored}
 use Rattle.modes.proofs.words.write_word.Statement.{statement}
 use Rattle.modes.proofs.words.write_word.Tie as tie
 
