@@ -22,10 +22,8 @@ use Rattle.octets.proofs.Xor.{length-xors, xors-cancel}
 use Rattle.octets.proofs.Same.{same-equal, same-refl, same-differ}
 use Rattle.octets.proofs.Blocks.{cut-next, chain-append, length-chain}
 use Rattle.octets.proofs.Running.{absorb-append, close-chain}
-use Rattle.modes.specs.Counter.{counterBlock, ctr, counterAnswer, frontOf}
+use Rattle.modes.specs.Counter.{counterBlock, ctr, frontOf}
 use Rattle.modes.specs.Ccm.{flags, firstBlock, dataBlocks, mac, front, firstPad, text, tagOf, tagRight}
-use Rattle.modes.specs.Calls.{textMax}
-use Rattle.modes.proofs.Limits.{counterFits-three, counterAnswer-fits}
 use Rattle.modes.proofs.Stream.{length-ctr, ctr-ctr}
 use Rattle.octets.proofs.Lent.{over-then}
 
@@ -99,16 +97,6 @@ module _ (f : List ℕ → List ℕ) (size : (x : List ℕ) → length (f x) ≡
   unfolding text
   text-counted s base h eb = ap (λ (l : List ℕ). ctr f 3 l 1 s) (sym (ap (frontOf false) eb ∙ front-base iv h))
 
--- as the counter routine writes it
-pub counter-text : (f : List ℕ → List ℕ) (iv s base out : List ℕ) (x : ℕ × List ℕ) → length iv ≡ 12 → length s ≤ textMax → base ≡ front iv ++ be 3 0
-    → counterAnswer f 3 (frontOf false base) 1 s out ≡ x → (0, over (text f iv s) out) ≡ x
-unfolding text
-counter-text f iv s base out x size short eb e =
-    sym
-    (ap (λ (l : List ℕ). counterAnswer f 3 l 1 s out) (ap (frontOf false) eb ∙ front-base iv size)
-    ∙ counterAnswer-fits f 3 (front iv) 1 s out (counterFits-three 1 (length s) (lit≤ tt) short))
-    ∙ e
-
 -- ---- the tag
 
 -- one string with k is the other exactly where it is the other with k
@@ -145,11 +133,11 @@ module _ (f : List ℕ → List ℕ) (size : (x : List ℕ) → length (f x) ≡
 -- ---- the ciphertext over the front of the output, and the tag after it
 
 module _ (f : List ℕ → List ℕ) (size : (x : List ℕ) → length (f x) ≡ 16) (iv a p : List ℕ) where
-  pub sealed-steps : (base tag out out₁ ys : List ℕ) (r : ℕ) → length iv ≡ 12 → length p ≤ textMax → length p + 16 ≤ length out
-      → base ≡ front iv ++ be 3 0 → tag ≡ tagOf f iv a p → counterAnswer f 3 (frontOf false base) 1 p out ≡ (r, out₁)
+  pub sealed-steps : (base tag out out₁ ys : List ℕ) → length iv ≡ 12 → length p + 16 ≤ length out
+      → base ≡ front iv ++ be 3 0 → tag ≡ tagOf f iv a p → out₁ ≡ over (ctr f 3 (frontOf false base) 1 p) out
       → ys ≡ over tag (take (length out₁ - length p) (drop (length p) out₁))
       → take (length p) out₁ ++ (ys ++ drop (length out₁ - length p) (drop (length p) out₁)) ≡ over (text f iv p ++ tagOf f iv a p) out
-  sealed-steps base tag out out₁ ys r h short fits eb et er ey =
+  sealed-steps base tag out out₁ ys h fits eb et eo ey =
       over-then (text f iv p) (tagOf f iv a p) out out₁ ys (length p) (length-text f size iv p) (omega (arith, length-tagOf f size iv a p))
-      (sym (ap (λ (x : ℕ × List ℕ). x .1) (counter-text f iv p base out (r, out₁) h short eb er)))
+      (eo ∙ ap (λ (l : List ℕ). over l out) (sym (text-counted f size iv p base h eb)))
       (ey ∙ ap (λ (t : List ℕ). over t (take (length out₁ - length p) (drop (length p) out₁))) et)

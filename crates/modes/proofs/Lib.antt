@@ -1,6 +1,9 @@
 mod Written
+mod Bytewise
 pub mod Limits
 pub mod Stream
+mod Grouped
+mod Beside
 pub mod Chained
 pub mod Formatted
 pub mod Opened

@@ -7,7 +7,7 @@ use native.Mathlib.Nat.{add-zero}
 use native.Mathlib.Numerals.{add-one}
 use native.Mathlib.Omega.{arith}
 use lib.ListN.{length, take, drop, length-append, length-drop, take-append-drop, drop-of-length-le}
-use lib.Seq.{length-take-le, take-all, take-append-le, drop-append-le}
+use lib.Seq.{length-take-le, take-append-le, drop-append-le}
 use Rattle.octets.specs.Values.{values}
 use Rattle.octets.specs.Xor.{xors}
 use Rattle.octets.specs.Blocks.{blocks}
@@ -17,7 +17,7 @@ use Rattle.octets.proofs.Xor.{length-xors, xors-cancel, xors-append}
 use Rattle.octets.proofs.Lent.{over-fits}
 use Rattle.modes.specs.Counter.{stream, counterBlock, ctr}
 use Rattle.modes.specs.Laws.{CounterTwice}
-use Rattle.modes.proofs.Written.{drop-part, part-length, pair-written, back-take, back-drop, back-length}
+use Rattle.modes.proofs.Written.{drop-part, part-length, back-take, back-drop, back-length}
 
 pub ctr-nil : (f : List ℕ → List ℕ) (w : ℕ) (front : List ℕ) (i : ℕ) → ctr f w front i [] ≡ []
 unfolding ctr
@@ -86,24 +86,6 @@ module _ (f : List ℕ → List ℕ) (size : (x : List ℕ) → length (f x) ≡
             later : i + 1 + m ≡ i + suc m
             later = omega arith
 
-    -- two blocks x and y, as the code writes them one after the other
-    pub ctr-pair : (i : ℕ) (s out x y ys zs : List ℕ) → length s ≡ 32 → length out ≡ 32
-        → x ≡ xors (take 16 s) (f (counterBlock w front i)) → y ≡ xors (take 16 (drop 16 s)) (f (counterBlock w front (i + 1)))
-        → ys ≡ over x (take 16 out) → zs ≡ over y (take 16 (drop 16 (ys ++ drop 16 out)))
-        → take 16 (ys ++ drop 16 out) ++ (zs ++ drop 16 (drop 16 (ys ++ drop 16 out))) ≡ ctr f w front i s
-    ctr-pair i s out x y ys zs long room first second ex ey =
-        pair-written out x y ys zs room (sized (take 16 s) x i first (length-take-le 16 s (omega arith)))
-        (sized (take 16 (drop 16 s)) y (i + 1) second (length-take-le 16 (drop 16 s) (omega (arith, length-drop 16 s)))) ex ey
-        ∙ ap₂ (λ (l r : List ℕ). l ++ r) first
-        (second ∙ ap (λ (l : List ℕ). xors l (f (counterBlock w front (i + 1)))) (take-all 16 (drop 16 s) rest) ∙ sym (ctr-last (i + 1) (drop 16 s) rest))
-        ∙ sym (ctr-next i s (omega arith))
-      where
-        rest : length (drop 16 s) ≤ 16
-        rest = omega (arith, length-drop 16 s)
-
-        sized : (b x : List ℕ) (k : ℕ) → x ≡ xors b (f (counterBlock w front k)) → length b ≡ 16 → length x ≡ 16
-        sized b x k e h = ap length e ∙ length-xors b (f (counterBlock w front k)) (omega (arith, h, size (counterBlock w front k))) ∙ h
-
     -- twice gives the string back
     pub ctr-ctr : (i : ℕ) (s : List ℕ) → ctr f w front i (ctr f w front i s) ≡ s
     unfolding ctr
@@ -130,6 +112,11 @@ module _ {f : List ℕ → List ℕ} {w : ℕ} {front : List ℕ} {i : ℕ} {s b
   -- an output that is partly written is one to write the rest into
   pub partly-again : {at k : ℕ} {out : List ℕ} → Partly f w front i s before at k out → Partly f w front i s out at k out
   partly-again p = record { inside = p .inside; room = refl; counted = p .counted; written = p .written; kept = refl }
+
+  -- a part of it from there on, as it is lent
+  pub partly-part : {at k : ℕ} {out : List ℕ} → Partly f w front i s before at k out → length s ≤ length before → (e : ℕ) → e ≤ length s
+      → length (take (e - at) (drop at out)) ≡ e - at
+  partly-part {at} {k} {out} p fits e le = part-length out at e (omega (arith, p .room))
 
   module _ {at k : ℕ} {out : List ℕ} (p : Partly f w front i s before at k out) (fits : length s ≤ length before) (size : (x : List ℕ) → length (f x) ≡ 16) where
     -- m blocks more, or all that there is, up to place e

@@ -7,12 +7,10 @@ use native.Mathlib.Nat.{add-zero}
 use native.Mathlib.Numerals.{add-one}
 use native.Mathlib.Omega.{arith}
 use lib.Bits.{bitXor}
-use lib.ListN.{length, getD, set, take, drop, replicate, length-append, length-take, length-drop, length-replicate, drop-of-length-le}
-use lib.Seq.{take-all, take-at, drop-at, drop-cons, drop-drop, take-suc-set, append-snoc, length-take-le}
+use lib.ListN.{length, getD, set, take, drop, length-append, length-take, length-drop, drop-of-length-le}
+use lib.Seq.{take-all, take-at, drop-at, drop-cons, drop-drop, take-suc-set, append-snoc}
 use Rattle.octets.specs.Values.{values}
 use Rattle.octets.specs.Xor.{xors}
-use Rattle.octets.specs.Lent.{over}
-use Rattle.octets.proofs.Lent.{over-whole}
 use Rattle.octets.proofs.Values.{cons-equal, values-from, values-part}
 
 -- the n + 1 bytes from place i, as they are read
@@ -51,22 +49,12 @@ module _ (out ys : List ℕ) (a e : ℕ) (le : a ≤ e) (fits : e ≤ length out
   pub back-length : length (take a out ++ (ys ++ drop (e - a) (drop a out))) ≡ length out
   back-length = simp (length-append, length-take, length-drop) (omega arith)
 
--- two halves of 32 bytes, lent one after the other, with a block written over each
-pub pair-written : (out x y ys zs : List ℕ) → length out ≡ 32 → length x ≡ 16 → length y ≡ 16
-    → ys ≡ over x (take 16 out) → zs ≡ over y (take 16 (drop 16 (ys ++ drop 16 out)))
+-- two halves of 32 bytes, lent one after the other, which came back as x and y
+pub pair-written : (out x y ys zs : List ℕ) → length out ≡ 32 → length x ≡ 16 → ys ≡ x → zs ≡ y
     → take 16 (ys ++ drop 16 out) ++ (zs ++ drop 16 (drop 16 (ys ++ drop 16 out))) ≡ x ++ y
-pair-written out x y ys zs room hx hy first second =
+pair-written out x y ys zs room hx is next =
     rw (take-at ys (drop 16 out) 16 (ap length is ∙ hx), drop-at ys (drop 16 out) 16 (ap length is ∙ hx), drop-drop 16 16 out, drop-of-length-le out {i = 32} (omega arith), append-nil zs)
     (ap₂ (λ (l r : List ℕ). l ++ r) is next)
-  where
-    is : ys ≡ x
-    is = first ∙ over-whole x (take 16 out) (hx ∙ sym (length-take-le 16 out (omega arith)))
-
-    next : zs ≡ y
-    next =
-        second
-        ∙ ap (λ (l : List ℕ). over y (take 16 l)) (drop-at ys (drop 16 out) 16 (ap length is ∙ hx))
-        ∙ over-whole y (take 16 (drop 16 out)) (hy ∙ sym (length-take-le 16 (drop 16 out) (omega (arith, length-drop 16 out))))
 
 -- ---- a sum written byte by byte: one byte more, and after the last
 

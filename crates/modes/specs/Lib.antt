@@ -1,5 +1,6 @@
 pub mod Mode
 pub mod Counter
+pub mod Pads
 pub mod Ccm
 pub mod Gcm
 pub mod Calls

@@ -1,20 +1,25 @@
 // CCM: SP 800-38C with a 12-byte nonce, a 3-byte length field and a 16-byte tag.
 use crate::chain::absorb;
-use crate::chain::chain_along;
 use crate::chain::close;
-use crate::counter::counter;
 use crate::counter::counter_block;
 use crate::counter::counter_if;
+use crate::counter::start_at;
 use crate::lengths::no_room;
 use crate::lengths::too_long;
 use crate::lengths::wrong_key_or_iv;
 use crate::lengths::wrong_tag;
-use crate::parts::block_at;
 use crate::parts::iv_of;
 use crate::parts::key_of;
+use crate::passes::open_block;
+use crate::passes::renewed;
+use crate::passes::seal_text;
 use crate::tag::same_tag;
 use crate::tag::tag_number;
+use crate::words::halves_at;
 use aes::expand_key;
+use aes_fast::encrypt_from;
+use aes_fast::halves::block;
+use aes_fast::halves::halves_from;
 use aes_fast::round_tables;
 use octets::big_endian::bytes16;
 use octets::strings::put;
@@ -27,13 +32,12 @@ ghost use lib.ListN.{length};
 ghost use Rattle.octets.specs.BigEndian.{be};
 ghost use Rattle.octets.specs.Blocks.{cut, chain};
 ghost use Rattle.octets.specs.Lent.{lowest, over, answer};
-ghost use Rattle.octets.specs.Xor.{xors};
 ghost use Rattle.aes.specs.Cipher.{cipher};
 ghost use Rattle.aes.specs.KeyExpansion.{schedule};
 ghost use Rattle.aes_fast.specs.Right.{Ready};
 ghost use Rattle.modes.specs.Mode.{sealed};
-ghost use Rattle.modes.specs.Counter.{counterBlock, ctr, frontOf};
-ghost use Rattle.modes.specs.Ccm.{flags, firstBlock, dataBlocks, front, firstPad, text, tagOf, tagRight, ccm};
+ghost use Rattle.modes.specs.Counter.{ctr, frontOf};
+ghost use Rattle.modes.specs.Ccm.{flags, firstBlock, dataBlocks, front, firstPad, text, tagRight, ccm};
 ghost use Rattle.modes.specs.Calls.{encryptAnswer, decryptAnswer};
 
 // The flags of the first block: 7Ah with associated data, 3Ah without.
@@ -139,38 +143,7 @@ fn chain_start(
     chain_data(t, ks, first, a, b)
 }
 
-// The tag of a plaintext.
-fn tag_of(
-    t: &[[u32; 256]; 4],
-    ks: &[[[u8; 4]; 4]; 15],
-    iv: [u8; 12],
-    a: &[u8],
-    b: &[u8],
-    p: &[u8],
-) -> [u8; 16]
-    requires { ⌜ Ready (now t) (now ks) × (length (now a) + length (now b) < 65536) ⌝ }
-    ensures { λ r. ⌜ r ≡ tagOf (cipher (now (ks .entry))) iv (now (a .entry) ++ now (b .entry)) (now (p .entry)) ⌝ }
-{
-    let y = chain_along(t, ks, chain_start(t, ks, iv, a, b, p.len()), p);
-    xor_blocks(y, first_pad(t, ks, iv))
-}
-
-// The chain along one block of the plaintext that a ciphertext gives, with counter k, and along a last part that is shorter than a block. Neither is written anywhere.
-fn open_block(
-    t: &[[u32; 256]; 4],
-    ks: &[[[u8; 4]; 4]; 15],
-    base: [u8; 16],
-    k: usize,
-    y: [u8; 16],
-    c: [u8; 16],
-) -> [u8; 16]
-    requires { ⌜ Ready (now t) (now ks) ⌝ }
-    ensures { λ r. ⌜ r ≡ cipher (now (ks .entry)) (xors y (xors c (cipher (now (ks .entry)) (counterBlock 3 (frontOf false base) k)))) ⌝ }
-{
-    let pad = aes_fast::encrypt(t, ks, counter_block(base, false, k));
-    aes_fast::encrypt(t, ks, xor_blocks(y, xor_blocks(c, pad)))
-}
-
+// The chain along a last part, shorter than a block, of the plaintext that a ciphertext gives, with counter k. It is written nowhere.
 fn open_last(
     t: &[[u32; 256]; 4],
     ks: &[[[u8; 4]; 4]; 15],
@@ -195,7 +168,7 @@ fn open_last(
     aes_fast::encrypt(t, ks, x)
 }
 
-// The same of a whole ciphertext.
+// The same of a whole ciphertext: each block is chained beside the next counter.
 fn chain_opened(
     t: &[[u32; 256]; 4],
     ks: &[[[u8; 4]; 4]; 15],
@@ -208,15 +181,21 @@ fn chain_opened(
 {
     let base = base_of(iv);
     let n = c.len();
-    let mut x = y;
+    let mut h = halves_from(y);
     let mut at = 0;
     let mut k = 1;
+    let mut s = start_at(t, ks, base, false, 1);
+    let mut pad = encrypt_from(t, ks, s, 1);
     while 16 <= n - at {
-        let u = open_block(t, ks, base, k, x, block_at(c, at));
-        x = u;
+        let v = renewed(t, ks, base, s, k + 1);
+        let both = open_block(t, ks, v, ((k + 1) % 256) as u8, h, halves_at(c, at), pad);
+        h = both.one;
+        pad = both.other;
+        s = v;
         at += 16;
         k += 1;
     }
+    let x = block(h);
     open_last(t, ks, base, k, x, &c[at..])
 }
 
@@ -243,9 +222,11 @@ fn seal(key: [u8; 32], iv: [u8; 12], a: &[u8], b: &[u8], p: &[u8], out: &mut [u8
 {
     let t = round_tables();
     let ks = expand_key(key);
-    let tag = tag_of(&t, &ks, iv, a, b, p);
     let n = p.len();
-    counter(&t, &ks, base_of(iv), false, 1, p, out);
+    let base = base_of(iv);
+    let y = chain_start(&t, &ks, iv, a, b, n);
+    let z = seal_text(&t, &ks, base, y, p, out);
+    let tag = xor_blocks(z, first_pad(&t, &ks, iv));
     put(&mut out[n..], &tag);
 }
 

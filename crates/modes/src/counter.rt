@@ -1,19 +1,25 @@
 // Counter mode, which CCM and GCM share: the field of a counter block is four bytes where it is wide, and else three.
-use crate::parts::block_at;
 use crate::parts::block_end;
-use aes_fast::encrypt;
-use aes_fast::encrypt_two;
-use octets::strings::put;
-use octets::strings::xor_blocks;
+use crate::words::add_halves;
+use crate::words::halves_at;
+use crate::words::put_halves;
+use aes_fast::encrypt_from;
+use aes_fast::encrypt_two_from;
+use aes_fast::halves::block;
+use aes_fast::start::Start;
+use aes_fast::start::start_of;
 ghost use mathlib.Core.Path.{_≡_};
 ghost use mathlib.Core.Bool.{true, not};
-ghost use Prim.Native.Nat.{_+_, _≤_, _<_};
+ghost use mathlib.Core.List.{_++_};
+ghost use Prim.Native.Nat.{_+_, _-_, _*_, _%_, _≤_, _<_, min};
 ghost use lib.ListN.{length, take, drop};
 ghost use Rattle.octets.specs.Blocks.{blocks};
 ghost use Rattle.octets.specs.Lent.{over, answer};
 ghost use Rattle.octets.specs.Xor.{xors};
 ghost use Rattle.aes.specs.Cipher.{cipher};
 ghost use Rattle.aes_fast.specs.Right.{Ready};
+ghost use Rattle.aes_fast.specs.Start.{cipherFrom};
+ghost use Rattle.modes.specs.Pads.{Serves};
 ghost use Rattle.modes.specs.Counter.{counterBlock, ctr, counterFits, counterAnswer, width, frontOf};
 
 pub(crate) fn counter_block(base: [u8; 16], wide: bool, i: usize) -> [u8; 16]
@@ -76,7 +82,7 @@ fn runs_over(wide: bool, i: usize, n: usize) -> bool
 }
 
 // The last part of the text, of 16 bytes or less, with its pad.
-fn add_last(text: &[u8], pad: [u8; 16], out: &mut [u8])
+pub(crate) fn add_last(text: &[u8], pad: [u8; 16], out: &mut [u8])
     requires { ⌜ (length (now text) ≤ 16) × (length (now out) ≡ length (now text)) ⌝ }
     ensures { λ _. ⌜ now (out .exit) ≡ xors (now (text .entry)) pad ⌝ }
 {
@@ -87,34 +93,86 @@ fn add_last(text: &[u8], pad: [u8; 16], out: &mut [u8])
     }
 }
 
-// Two blocks of the text, with the pads of counters k and k + 1.
+// Two blocks of the text, with the pads that the start gives for two counters whose last bytes are `low` and the next.
 fn add_pair(
+    t: &[[u32; 256]; 4],
+    ks: &[[[u8; 4]; 4]; 15],
+    s: Start,
+    low: u8,
+    text: &[u8],
+    out: &mut [u8],
+)
+    requires { ⌜ (low < 255) × (length (now text) ≡ 32) × (length (now out) ≡ 32) ⌝ }
+    ensures { λ _. ⌜ now (out .exit) ≡ xors (take 16 (now (text .entry))) (cipherFrom (now (t .entry)) (now (ks .entry)) s low) ++ xors (drop 16 (now (text .entry))) (cipherFrom (now (t .entry)) (now (ks .entry)) s (low + 1)) ⌝ }
+{
+    let start = 0;
+    let middle = 16;
+    let end = 32;
+    let pads = encrypt_two_from(t, ks, s, low, low + 1);
+    let block = halves_at(text, start);
+    let done = add_halves(block, pads.one);
+    let later = halves_at(text, middle);
+    let later_done = add_halves(later, pads.other);
+    put_halves(&mut out[start..middle], done);
+    put_halves(&mut out[middle..end], later_done);
+}
+
+// What the counters share that differ from k in the last byte alone.
+pub(crate) fn start_at(
     t: &[[u32; 256]; 4],
     ks: &[[[u8; 4]; 4]; 15],
     base: [u8; 16],
     wide: bool,
     k: usize,
+) -> Start
+    requires { ⌜ Ready (now t) (now ks) ⌝ }
+    ensures { λ r. ⌜ Serves (now (t .entry)) (now (ks .entry)) (width wide) (frontOf wide base) r k ⌝ }
+{
+    start_of(t, ks, counter_block(base, wide, k))
+}
+
+// A text whose counters, from i on, differ in the last byte alone: two blocks at a time, and the rest a block at a time.
+fn group(
+    t: &[[u32; 256]; 4],
+    ks: &[[[u8; 4]; 4]; 15],
+    base: [u8; 16],
+    wide: bool,
+    i: usize,
     text: &[u8],
     out: &mut [u8],
 )
-    requires { ⌜ Ready (now t) (now ks) × (length (now text) ≡ 32) × (length (now out) ≡ 32) × (k < 18446744073709551615) ⌝ }
-    ensures { λ _. ⌜ now (out .exit) ≡ ctr (cipher (now (ks .entry))) (width wide) (frontOf wide base) k (now (text .entry)) ⌝ }
+    requires { ⌜ Ready (now t) (now ks) × (length (now out) ≡ length (now text)) × (length (now text) + 16 * (i % 256) ≤ 4096) × (i ≤ 2305843009213693952) ⌝ }
+    ensures { λ _. ⌜ now (out .exit) ≡ ctr (cipher (now (ks .entry))) (width wide) (frontOf wide base) i (now (text .entry)) ⌝ }
 {
-    let start = 0;
-    let middle = 16;
-    let end = 32;
-    let first = counter_block(base, wide, k);
-    let second = counter_block(base, wide, k + 1);
-    let pads = encrypt_two(t, ks, [first, second]);
-    let block = block_at(text, start);
-    let later = block_at(text, middle);
-    let done = xor_blocks(block, pads[0]);
-    let later_done = xor_blocks(later, pads[1]);
-    put(&mut out[start..middle], &done);
-    put(&mut out[middle..end], &later_done);
+    let n = text.len();
+    let s = start_at(t, ks, base, wide, i);
+    let mut at = 0;
+    let mut k = i;
+    while 32 <= n - at {
+        let end = at + 32;
+        add_pair(t, ks, s, (k % 256) as u8, &text[at..end], &mut out[at..end]);
+        at = end;
+        k += 2;
+    }
+    while at < n {
+        let end = block_end(at, n);
+        let pad = block(encrypt_from(t, ks, s, (k % 256) as u8));
+        add_last(&text[at..end], pad, &mut out[at..end]);
+        at = end;
+        k += 1;
+    }
 }
 
-// The whole text, two blocks at a time and the rest a block at a time.
+// The end of the group that starts at `at` with counter k: where the counter's last byte would come round, or the end of all n.
+fn group_end(at: usize, n: usize, k: usize) -> usize
+    requires { ⌜ at < n ⌝ }
+    ensures { λ r. ⌜ r ≡ at + min (16 * (256 - k % 256)) (n - at) ⌝ }
+{
+    let most = 16 * (256 - k % 256);
+    if n - at < most { n } else { at + most }
+}
+
+// The whole text, from group to group.
 fn run(
     t: &[[u32; 256]; 4],
     ks: &[[[u8; 4]; 4]; 15],
@@ -128,20 +186,13 @@ fn run(
     ensures { λ _. ⌜ now (out .exit) ≡ over (ctr (cipher (now (ks .entry))) (width wide) (frontOf wide base) i (now (text .entry))) (now (out .entry)) ⌝ }
 {
     let n = text.len();
-    let mut at = 0;
+    let mut from = 0;
     let mut k = i;
-    while 32 <= n - at {
-        let end = at + 32;
-        add_pair(t, ks, base, wide, k, &text[at..end], &mut out[at..end]);
-        at = end;
-        k += 2;
-    }
-    while at < n {
-        let end = block_end(at, n);
-        let pad = encrypt(t, ks, counter_block(base, wide, k));
-        add_last(&text[at..end], pad, &mut out[at..end]);
-        at = end;
-        k += 1;
+    while from < n {
+        let end = group_end(from, n, k);
+        group(t, ks, base, wide, k, &text[from..end], &mut out[from..end]);
+        k += (end - from + 15) / 16;
+        from = end;
     }
 }
 

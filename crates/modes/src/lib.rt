@@ -5,4 +5,6 @@ mod counter;
 pub mod gcm;
 mod lengths;
 mod parts;
+mod passes;
 mod tag;
+mod words;

@@ -1,7 +1,7 @@
 -- `modes::ccm::authentic` meets its contract: the tag of the plaintext that the ciphertext gives is compared.
 -- Assumes nothing.
 use mathlib.Core.Path.{sym, ap, _∙_}
-use mathlib.Core.List.{List, _++_}
+use mathlib.Core.List.{_++_}
 use Prim.Native.Nat.{ℕ}
 use borrow.Author.Needs.{needs}
 use Rattle.octets.specs.Same.{same}

@@ -13,7 +13,7 @@ use Rattle.aes.proofs.Laws.{cipher-length}
 use Rattle.aes_fast.specs.Right.{Ready}
 use Rattle.aes_fast.proofs.Laws.{made-ready}
 use Rattle.modes.specs.Ccm.{text, tagOf}
-use Rattle.modes.proofs.Formatted.{sealed-steps}
+use Rattle.modes.proofs.Formatted.{tag-steps, sealed-steps}
 use Rattle.modes.proofs.ccm.seal.Statement.{statement}
 use Rattle.modes.proofs.ccm.seal.Tie as tie
 
@@ -23,25 +23,39 @@ ready c =
     let start = c .before .before .before .before .before .before in
     made-ready _ _ (start .args .key) (c .before .round-tables .ensures) (c .expand-key .ensures) (array-bytes 32 (start .args .key) _ (start .good .0))
 
-tag-of-requires : tie.Need-tag-of-requires
-tag-of-requires c κs = (ready (c .before .before), omega arith)
+abbrev made : tie.After-chain-start → tie.After-expand-key
+made c = c .before .before .before .before
 
-counter-requires : tie.Need-counter-requires
-counter-requires c κs = (ready (c .before .before .before .before .before .before .before), omega arith, omega arith)
+chain-start-requires : tie.Need-chain-start-requires
+chain-start-requires c κs = (ready (c .before .before .before), omega arith)
+
+seal-text-requires : tie.Need-seal-text-requires
+seal-text-requires c κs =
+    let key = made (c .before .before .before) in
+    let start = key .before .before .before .before .before .before in
+    (ready key, omega (arith, start .pre .2), start .pre .1)
+
+first-pad-requires : tie.Need-first-pad-requires
+first-pad-requires c κs = ready (made (c .before .before .before .before .before .before .before .before))
 
 returns : tie.Need-returns
 returns c =
-    let ran = c .before .before .before .before .before .before .before in
-    let base = ran .before .before in
-    let tagged = base .before .before .before in
-    let made = tagged .before .before .before in
-    let start = made .before .before .before .before .before .before in
+    let put = c .before .before in
+    let added = put .before .before .before in
+    let padded = added .before in
+    let sealed = padded .before .before .before .before .before in
+    let begun = sealed .before .before .before .before in
+    let base = begun .before .before .before in
+    let start = made begun .before .before .before .before .before .before in
     let a = start .args in
-    let F = cipher (made .expand-key .result) in
+    let keys = made begun .expand-key in
+    let F = cipher (keys .result) in
+    let size = cipher-length (keys .result) in
     let ab = a .a .now ++ a .b .now in
-    sealed-steps F (cipher-length (made .expand-key .result)) (a .iv) ab (a .p .now) _ _ (a .out .now) _ _ _ (start .good .1 .0 .1 .0 .1) (start .pre .1) (start .pre .2)
-    (base .base-of .ensures) (tagged .tag-of .ensures) (ran .counter .ensures) (c .before .before .put .ensures)
-    ∙ ap (λ (ks : List State). over (text (cipher ks) (a .iv) (a .p .now) ++ tagOf (cipher ks) (a .iv) ab (a .p .now)) (a .out .now)) (made .expand-key .ensures)
+    sealed-steps F size (a .iv) ab (a .p .now) _ _ (a .out .now) _ _ (start .good .1 .0 .1 .0 .1) (start .pre .2) (base .base-of .ensures)
+    (tag-steps F size (a .iv) ab (a .p .now) _ _ _ _ (begun .chain-start .ensures) (sealed .seal-text .ensures .0) (padded .first-pad .ensures) (added .xor-blocks .ensures))
+    (sealed .seal-text .ensures .1) (put .put .ensures)
+    ∙ ap (λ (ks : List State). over (text (cipher ks) (a .iv) (a .p .now) ++ tagOf (cipher ks) (a .iv) ab (a .p .now)) (a .out .now)) (keys .ensures)
 
 pub seal-spec : {M : Type 1} → statement M
 seal-spec =
@@ -49,9 +63,11 @@ seal-spec =
     (tie.spec
     (λ c κs. search needs)
     (λ c κs. search needs)
-    tag-of-requires
     (λ c κs. search needs)
-    counter-requires
+    chain-start-requires
+    seal-text-requires
+    first-pad-requires
+    (λ c κs. search needs)
     (λ c. search needs)
     (λ c. search needs)
     (λ c. search needs)

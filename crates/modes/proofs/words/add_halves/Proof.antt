@@ -1,0 +1,17 @@
+-- `modes::words::add_halves` meets its contract: word by word.
+-- Assumes nothing.
+use mathlib.Core.Path.{refl}
+use Rattle.modes.proofs.Bytewise.{halvesBlock-xor}
+use Rattle.modes.proofs.words.add_halves.Statement.{statement}
+use Rattle.modes.proofs.words.add_halves.Tie as tie
+
+returns : tie.Need-returns
+returns c =
+    let a = c .before .before .before .before .args in
+    halvesBlock-xor (a .a) (a .b) _ refl refl
+
+pub add-halves-spec : {M : Type 1} → statement M
+add-halves-spec =
+    tie.close
+    (tie.spec
+    returns)
