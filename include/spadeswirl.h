@@ -27,7 +27,7 @@
  * The lowest number that applies is given. After any number but 0 nothing
  * that was lent has changed. After 0 the bytes of an output past the result
  * are as they were. No call allocates, keeps a pointer, or uses memory other
- * than its stack (some 16 KB).
+ * than its stack (up to some 28 KB).
  *
  * What the caller owes, since no statement can say it: each pointer is good
  * for its length, and a string that a call writes overlaps no other string
