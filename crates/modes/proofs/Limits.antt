@@ -1,35 +1,44 @@
 -- The counter block as the code writes it, and the tests of lengths and of the counter field.
 -- Assumes nothing.
-use mathlib.Core.Path.{_≡_, refl, sym, ap, _∙_}
+use mathlib.Core.Path.{_≡_, refl, sym, ap, ap₂, _∙_}
 use mathlib.Core.Bool.{Bool, true, false, not}
-use mathlib.Core.List.{List, [], _∷_, _++_}
+use mathlib.Core.List.{List, [], _∷_, _++_, append-nil}
 use Prim.Native.Nat.{ℕ, _+_, _-_, _/_, _%_, _^_, _≤_, _<_}
 use native.Mathlib.Nat.{div-one}
 use native.Mathlib.Omega.{arith}
 use borrow.Author.Tests.{ltb-true, ltb-false, leb-true, leb-false, lt-ltb, le-ltb, le-leb}
-use lib.Dec.{ltb, leb}
-use lib.ListN.{length, getD, take}
-use Rattle.octets.specs.Values.{values}
+use lib.Dec.{ltb, leb, lit≤}
+use lib.ListN.{length, set, take, drop, length-set, drop-of-length-le}
+use lib.Seq.{sets-eq, set-split, take-set-le, drop-at, length-take-le}
 use Rattle.octets.specs.Blocks.{blocks}
 use Rattle.octets.specs.Lent.{over}
-use Rattle.octets.proofs.Values.{values-part}
 use Rattle.modes.specs.Counter.{counterBlock, ctr, counterFits, counterNumber, counterAnswer, width, frontOf}
 use Rattle.modes.specs.Calls.{dataMax, textMax, tooLong}
 
 -- ---- the counter block, byte by byte
 
 module _ (base : List ℕ) (i : ℕ) (size : length base ≡ 16) where
-  -- the front's n bytes, before the field's
-  front-bytes : (n : ℕ) (field : List ℕ) → n ≤ 16 → values (λ k. getD base k 0) 0 n ++ field ≡ take n base ++ field
-  front-bytes n field h = ap (λ (l : List ℕ). l ++ field) (values-part base 0 0 n (omega arith))
+  abbrev low-stored : List ℕ
+  low-stored = set (set (set base 13 (i / 65536 % 256)) 14 (i / 256 % 256)) 15 (i % 256)
 
-  pub wide-block : values (λ k. getD base k 0) 0 12 ++ i / 16777216 % 256 ∷ i / 65536 % 256 ∷ i / 256 % 256 ∷ i % 256 ∷ []
-      ≡ counterBlock (width true) (frontOf true base) i
-  wide-block = rw (div-one i) (front-bytes 12 _ (omega arith))
+  narrow-stored : low-stored ≡ take 13 base ++ (i / 65536 % 256 ∷ i / 256 % 256 ∷ i % 256 ∷ [])
+  narrow-stored =
+      sets-eq (i / 65536 % 256 ∷ i / 256 % 256 ∷ i % 256 ∷ []) base 13 (omega arith)
+      ∙ ap (λ (l : List ℕ). take 13 base ++ (i / 65536 % 256 ∷ i / 256 % 256 ∷ i % 256 ∷ []) ++ l) (drop-of-length-le base {i = 16} (omega arith))
+      ∙ append-nil (take 13 base ++ (i / 65536 % 256 ∷ i / 256 % 256 ∷ i % 256 ∷ []))
 
-  pub narrow-block : values (λ k. getD base k 0) 0 13 ++ i / 65536 % 256 ∷ i / 256 % 256 ∷ i % 256 ∷ []
-      ≡ counterBlock (width false) (frontOf false base) i
-  narrow-block = rw (div-one i) (front-bytes 13 _ (omega arith))
+  pub narrow-block : low-stored ≡ counterBlock (width false) (frontOf false base) i
+  narrow-block = rw (div-one i) narrow-stored
+
+  pub wide-block : set low-stored 12 (i / 16777216 % 256) ≡ counterBlock (width true) (frontOf true base) i
+  wide-block =
+      rw (div-one i)
+      (set-split low-stored 12 (i / 16777216 % 256) (simp length-set (omega arith))
+      ∙ ap₂ (λ (a b : List ℕ). a ++ i / 16777216 % 256 ∷ b)
+      (take-set-le 12 (set (set base 13 (i / 65536 % 256)) 14 (i / 256 % 256)) 15 (i % 256) (lit≤ tt)
+      ∙ take-set-le 12 (set base 13 (i / 65536 % 256)) 14 (i / 256 % 256) (lit≤ tt)
+      ∙ take-set-le 12 base 13 (i / 65536 % 256) (lit≤ tt))
+      (ap (drop 13) narrow-stored ∙ drop-at (take 13 base) (i / 65536 % 256 ∷ i / 256 % 256 ∷ i % 256 ∷ []) 13 (length-take-le 13 base (omega arith))))
 
 -- ---- tests
 

@@ -25,48 +25,15 @@ ghost use Rattle.modes.specs.Counter.{counterBlock, ctr, counterFits, co
 pub(crate) fn counter_block(base: [u8; 16], wide: bool, i: usize) -> [u8; 16]
     ensures { λ r. ⌜ r ≡ counterBlock (width wide) (frontOf wide base) i ⌝ }
 {
-    let low = (i % 256) as u8;
-    let second = (i / 256 % 256) as u8;
-    let third = (i / 65536 % 256) as u8;
+    let mut b = base;
+    b[13] = (i / 65536 % 256) as u8;
+    b[14] = (i / 256 % 256) as u8;
+    b[15] = (i % 256) as u8;
     if wide {
-        let top = (i / 16777216 % 256) as u8;
-        return [
-            base[0],
-            base[1],
-            base[2],
-            base[3],
-            base[4],
-            base[5],
-            base[6],
-            base[7],
-            base[8],
-            base[9],
-            base[10],
-            base[11],
-            top,
-            third,
-            second,
-            low,
-        ];
+        b[12] = (i / 16777216 % 256) as u8;
+        return b;
     }
-    [
-        base[0],
-        base[1],
-        base[2],
-        base[3],
-        base[4],
-        base[5],
-        base[6],
-        base[7],
-        base[8],
-        base[9],
-        base[10],
-        base[11],
-        base[12],
-        third,
-        second,
-        low,
-    ]
+    b
 }
 
 // Whether the counters from i on that n bytes take would run over the field.

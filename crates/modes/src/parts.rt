@@ -1,4 +1,6 @@
 // Parts of lent strings as arrays by value.
+use crate::words::halves_at;
+use aes_fast::halves::block;
 use octets::strings::put;
 ghost use mathlib.Core.Path.{_≡_};
 ghost use Prim.Native.Nat.{_+_, _-_, _≤_, _<_, min};
@@ -27,24 +29,7 @@ pub(crate) fn block_at(s: &[u8], i: usize) -> [u8; 16]
     requires { ⌜ i + 16 ≤ length (now s) ⌝ }
     ensures { λ r. ⌜ r ≡ take 16 (drop i (now (s .entry))) ⌝ }
 {
-    [
-        s[i],
-        s[i + 1],
-        s[i + 2],
-        s[i + 3],
-        s[i + 4],
-        s[i + 5],
-        s[i + 6],
-        s[i + 7],
-        s[i + 8],
-        s[i + 9],
-        s[i + 10],
-        s[i + 11],
-        s[i + 12],
-        s[i + 13],
-        s[i + 14],
-        s[i + 15],
-    ]
+    block(halves_at(s, i))
 }
 
 // The end of the block that starts at `at`: 16 bytes on, or the end of all n.

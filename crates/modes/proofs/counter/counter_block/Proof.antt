@@ -6,10 +6,10 @@ use Rattle.modes.proofs.counter.counter_block.Statement.{statement}
 use Rattle.modes.proofs.counter.counter_block.Tie as tie
 
 returns : tie.Need-returns
-returns c = let a = c .before .args in rw (c .if1 .taken) (wide-block (a .t1) (a .i) (c .before .good .0 .1 .0 .1))
+returns c = let start = c .before in rw (c .if1 .taken) (wide-block (start .args .base) (start .args .i) (start .good .0 .1 .0 .1))
 
 returns-2 : tie.Need-returns-2
-returns-2 c = let a = c .before .args in rw (c .if1 .left) (narrow-block (a .t1) (a .i) (c .before .good .0 .1 .0 .1))
+returns-2 c = let start = c .before in rw (c .if1 .left) (narrow-block (start .args .base) (start .args .i) (start .good .0 .1 .0 .1))
 
 pub counter-block-spec : {M : Type 1} → statement M
 counter-block-spec =
@@ -17,11 +17,5 @@ counter-block-spec =
     (tie.spec
     (λ c. search needs) (λ c. search needs) (λ c. search needs) (λ c. search needs)
     (λ c. search needs) (λ c. search needs) (λ c. search needs) (λ c. search needs)
-    (λ c. search needs) (λ c. search needs) (λ c. search needs) (λ c. search needs)
-    (λ c. search needs) (λ c. search needs) (λ c. search needs) (λ c. search needs)
     returns
-    (λ c. search needs) (λ c. search needs) (λ c. search needs) (λ c. search needs)
-    (λ c. search needs) (λ c. search needs) (λ c. search needs) (λ c. search needs)
-    (λ c. search needs) (λ c. search needs) (λ c. search needs) (λ c. search needs)
-    (λ c. search needs)
     returns-2)
