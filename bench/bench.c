@@ -64,7 +64,7 @@ static void compare(int mode, size_t n)
 static double measure(int mode, int opening, size_t n, int turns)
 {
     double best[PEERS], top = 0;
-    size_t times = n < 4096 ? 2048 : n < MOST ? 32 : 2;
+    size_t times = n < 4096 ? 2048 : n < MOST ? 32 : 8;
     for (size_t i = 0; i < PEERS; i++)
         best[i] = 1e9;
     for (int turn = 0; turn < turns; turn++)
