@@ -60,8 +60,16 @@ static void compare(int mode, size_t n)
     }
 }
 
-/* The unit's seconds for a call. */
-static double measure(int mode, int opening, size_t n, int turns)
+/* The seconds of a call, by so many of them. */
+static double timed(size_t i, int mode, int opening, size_t n, size_t times)
+{
+    double from = seconds();
+    for (size_t k = 0; k < times; k++)
+        once(peers[i], i, mode, opening, n);
+    return (seconds() - from) / (double)times;
+}
+
+static void measure(int mode, int opening, size_t n, int turns)
 {
     double best[PEERS], top = 0;
     size_t times = n < 4096 ? 2048 : n < MOST ? 32 : 8;
@@ -69,10 +77,7 @@ static double measure(int mode, int opening, size_t n, int turns)
         best[i] = 1e9;
     for (int turn = 0; turn < turns; turn++)
         for (size_t i = 0; i < PEERS; i++) {
-            double from = seconds();
-            for (size_t k = 0; k < times; k++)
-                once(peers[i], i, mode, opening, n);
-            double took = (seconds() - from) / (double)times;
+            double took = timed(i, mode, opening, n, times);
             if (took < best[i])
                 best[i] = took;
         }
@@ -84,7 +89,21 @@ static double measure(int mode, int opening, size_t n, int turns)
             top = speed;
     }
     printf(" %8.2f\n", (double)n / best[0] / 1e6 / top);
-    return best[0];
+}
+
+/* The unit's cost of a byte at 1 MiB over one at 64 KiB, the best of each in turns that go from one to the other. */
+static double linear(int mode, int opening, int turns)
+{
+    double small = 1e9, large = 1e9;
+    for (int turn = 0; turn < 4 * turns; turn++) {
+        once(&unit, 0, mode, 0, 65536);
+        double took = timed(0, mode, opening, 65536, 32) / 65536;
+        small = took < small ? took : small;
+        once(&unit, 0, mode, 0, MOST);
+        took = timed(0, mode, opening, MOST, 2) / MOST;
+        large = took < large ? took : large;
+    }
+    return large / small;
 }
 
 /* Fills the stack below with a pattern; and tells how far down it was written over. */
@@ -115,7 +134,8 @@ static size_t stack_of(int mode, int opening)
 
 static void table(int turns)
 {
-    double cost[2][2][SIZES];
+    compare(GCM, MOST); /* so that the first line finds the processor awake */
+    compare(CCM, MOST);
     printf("mode  way      bytes");
     for (size_t i = 0; i < PEERS; i++)
         printf(" %10s", peers[i]->name);
@@ -124,14 +144,14 @@ static void table(int turns)
         for (int opening = 0; opening < 2; opening++)
             for (size_t i = 0; i < SIZES; i++) {
                 compare(mode, sizes[i]);
-                cost[mode][opening][i] = measure(mode, opening, sizes[i], turns);
+                measure(mode, opening, sizes[i], turns);
             }
     for (int mode = GCM; mode <= CCM; mode++)
         for (int opening = 0; opening < 2; opening++) {
-            double *c = cost[mode][opening];
+            double cost = linear(mode, opening, turns);
             compare(mode, 65536);
-            printf("%s %s: a byte at 1 MiB costs %.3f of one at 64 KiB; stack %zu bytes\n", mode == GCM ? "GCM" : "CCM", opening ? "open" : "seal",
-                   c[3] / (double)sizes[3] / (c[2] / (double)sizes[2]), stack_of(mode, opening));
+            printf("%s %s: a byte at 1 MiB costs %.3f of one at 64 KiB; stack %zu bytes\n", mode == GCM ? "GCM" : "CCM", opening ? "open" : "seal", cost,
+                   stack_of(mode, opening));
         }
 }
 
