@@ -11,7 +11,8 @@ use Rattle.octets.specs.Tests.{partOf}
 use Rattle.octets.proofs.Tests.{part-short}
 use Rattle.modes.specs.Calls.{encryptAnswer, decryptAnswer}
 use Rattle.keywrap.specs.Calls.{keySize, wrappedSize, wrapAnswer, unwrapAnswer}
-use Rattle.cases.specs.Case.{wordMax, tagSize, isBytes, bytesIn, zeros, Outcome, malformed, ran, rounds, blockBy, modeOf, blockCase, encryptCase, decryptCase, wrapCase, unwrapCase}
+use Rattle.modes.specs.Ccm.{tagSize}
+use Rattle.cases.specs.Case.{wordMax, isBytes, bytesIn, lentRoom, Outcome, malformed, ran, rounds, blockBy, modeBy, blockCase, encryptCase, decryptCase, wrapCase, unwrapCase}
 use Rattle.cases.specs.Parts.{Holds}
 
 -- ---- a word that was read
@@ -31,7 +32,7 @@ module _ {w bytes : List ℕ} {right : Bool} {size : ℕ} (h : Holds w right siz
 -- ---- key wrap
 
 module _ {kek key : List ℕ} {o : Outcome} where
-  pub wrap-ran : {a b : List ℕ} → Word kek a → Word key b → ran (wrapAnswer a b zeros) wrappedSize ≡ o → wrapCase kek key ≡ o
+  pub wrap-ran : {a b : List ℕ} → Word kek a → Word key b → ran (wrapAnswer a b lentRoom) wrappedSize ≡ o → wrapCase kek key ≡ o
   unfolding wrapCase
   wrap-ran u v r = rw (u .right, v .right, ← u .bytes, ← v .bytes) r
 
@@ -39,7 +40,7 @@ module _ {kek key : List ℕ} {o : Outcome} where
   unfolding wrapCase
   wrap-broken h i f r = rw (← h .test, ← i .test, f) r
 
-  pub unwrap-ran : {a b : List ℕ} → Word kek a → Word key b → ran (unwrapAnswer a b zeros) keySize ≡ o → unwrapCase kek key ≡ o
+  pub unwrap-ran : {a b : List ℕ} → Word kek a → Word key b → ran (unwrapAnswer a b lentRoom) keySize ≡ o → unwrapCase kek key ≡ o
   unfolding unwrapCase
   unwrap-ran u v r = rw (u .right, v .right, ← u .bytes, ← v .bytes) r
 
@@ -51,7 +52,7 @@ module _ {kek key : List ℕ} {o : Outcome} where
 
 module _ (there : Bool) (times : ℕ) {key block : List ℕ} {o : Outcome} where
   pub block-ran : {a b : List ℕ} → Word key a → Word block b
-      → ran (answer (rounds (blockBy there) times a b .0) (rounds (blockBy there) times a b .1) zeros) (length b) ≡ o → blockCase there times key block ≡ o
+      → ran (answer (rounds (blockBy there) times a b .0) (rounds (blockBy there) times a b .1) lentRoom) (length b) ≡ o → blockCase there times key block ≡ o
   unfolding blockCase
   block-ran u v r = rw (u .right, v .right, ← u .bytes, ← v .bytes) r
 
@@ -63,7 +64,7 @@ module _ (there : Bool) (times : ℕ) {key block : List ℕ} {o : Outcome} where
 
 module _ (isGcm : Bool) {key iv aad : List ℕ} {o : Outcome} where
   pub encrypt-ran : {plain k i a p : List ℕ} → Word key k → Word iv i → Word aad a → Word plain p
-      → ran (encryptAnswer (modeOf isGcm) k i a [] p zeros) (length p + tagSize) ≡ o → encryptCase isGcm key iv aad plain ≡ o
+      → ran (encryptAnswer (modeBy isGcm) k i a [] p lentRoom) (length p + tagSize) ≡ o → encryptCase isGcm key iv aad plain ≡ o
   unfolding encryptCase
   encrypt-ran wk wi wa wp r = rw (wk .right, wi .right, wa .right, wp .right, ← wk .bytes, ← wi .bytes, ← wa .bytes, ← wp .bytes) r
 
@@ -73,7 +74,7 @@ module _ (isGcm : Bool) {key iv aad : List ℕ} {o : Outcome} where
   encrypt-broken h i j k f r = rw (← h .test, ← i .test, ← j .test, ← k .test, f) r
 
   pub decrypt-ran : {text tag k i a p t : List ℕ} → Word key k → Word iv i → Word aad a → Word text p → Word tag t
-      → ran (decryptAnswer (modeOf isGcm) k i a [] p t zeros) (length p) ≡ o → decryptCase isGcm key iv aad text tag ≡ o
+      → ran (decryptAnswer (modeBy isGcm) k i a [] p t lentRoom) (length p) ≡ o → decryptCase isGcm key iv aad text tag ≡ o
   unfolding decryptCase
   decrypt-ran wk wi wa wp wt r =
       rw (wk .right, wi .right, wa .right, wp .right, wt .right, ← wk .bytes, ← wi .bytes, ← wa .bytes, ← wp .bytes, ← wt .bytes) r

@@ -10,8 +10,8 @@ use lib.ListN.{length}
 use borrow.Author.Tests.{ltb-true, ltb-false, le-leb, lt-leb}
 use Rattle.octets.specs.Lent.{lowest, over}
 use Rattle.octets.proofs.Lent.{take-over}
-use Rattle.wording.specs.Hex.{isHex, bytesOf, hexRead}
-use Rattle.wording.proofs.Digits.{length-bytesOf, hex-even, read-done}
+use Rattle.wording.specs.Hex.{isHex, hexBytes, hexRead}
+use Rattle.wording.proofs.Digits.{length-hexBytes, hex-even, read-done}
 use Rattle.cases.specs.Case.{wordMax, isDash, isBytes, bytesIn}
 use Rattle.cases.specs.Parts.{Holds}
 
@@ -49,10 +49,10 @@ module _ (w room after : List ℕ) (n : ℕ) (size : length room ≡ wordMax) (o
       let right = right-by (isHex w) refl (ltb (length room) (length w / 2)) refl e in
       let hex = right .0 in
       let even : length w % 2 ≡ 0 = hex-even w hex in
-      let written : after ≡ over (bytesOf w) room = ap (λ (p : ℕ × List ℕ). p .1) (sym read ∙ read-done w room hex (omega (arith, right .1))) in
+      let written : after ≡ over (hexBytes w) room = ap (λ (p : ℕ × List ℕ). p .1) (sym read ∙ read-done w room hex (omega (arith, right .1))) in
       record {
         test = rw (other, hex, le-leb (length w) (2 * wordMax) (omega (arith, right .1)));
         room = kept;
         small = right .1;
-        held = λ r. rw (written, other) (take-over (bytesOf w) room (length w / 2) (length-bytesOf (length w / 2) w (omega arith)) (omega (arith, right .1)));
+        held = λ r. rw (written, other) (take-over (hexBytes w) room (length w / 2) (length-hexBytes (length w / 2) w (omega arith)) (omega (arith, right .1)));
       }

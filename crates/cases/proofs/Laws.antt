@@ -12,11 +12,11 @@ use Rattle.octets.specs.Lent.{when}
 use Rattle.octets.specs.Tests.{every, all}
 use Rattle.octets.proofs.Tests.{and-left, and-right, every-at}
 use Rattle.octets.proofs.Lent.{one-answer}
-use Rattle.wording.specs.Hex.{isHex, bytesOf}
-use Rattle.wording.proofs.Digits.{length-bytesOf, hex-even}
+use Rattle.wording.specs.Hex.{isHex, hexBytes}
+use Rattle.wording.proofs.Digits.{length-hexBytes, hex-even}
 use Rattle.cases.specs.Words.{space, upTo, partsAfter, wordsOf, someBytes}
 use Rattle.cases.specs.Case.{wordMax, outMax, isDash, isBytes, bytesIn, Outcome, malformed, ran, blockCase, encryptCase, decryptCase, wrapCase, unwrapCase}
-use Rattle.cases.specs.Line.{there, back, ccmWord, unwrapWord, gcmName, ccmName, says, named, ofFive, ofSix, ofEight, ofMode, ofNine, byCount, isComment, caseOutcome}
+use Rattle.cases.specs.Line.{there, back, ccmWord, unwrapWord, gcmName, ccmName, says, nameBegins, ofFive, ofSix, ofEight, ofMode, ofNine, byCount, isComment, caseOutcome}
 use Rattle.cases.specs.Laws.{joined, WordsJoin, SizeFits, RunUnique}
 
 -- ---- a line is its words joined
@@ -52,12 +52,12 @@ bytes-small : (w : List ℕ) → isBytes w ≡ true → length (bytesIn w) ≤ w
 unfolding isBytes bytesIn
 bytes-small w e = go (isDash w) e
   where
-    go : (t : Bool) → (t || (isHex w && leb (length w) (2 * wordMax))) ≡ true → length (when t [] (bytesOf w)) ≤ wordMax
+    go : (t : Bool) → (t || (isHex w && leb (length w) (2 * wordMax))) ≡ true → length (when t [] (hexBytes w)) ≤ wordMax
     go true h = omega arith
     go false h =
         let even : length w % 2 ≡ 0 = hex-even w (and-left (isHex w) (leb (length w) (2 * wordMax)) h) in
         let short : length w ≤ 2 * wordMax = leb-true (length w) (2 * wordMax) (and-right (isHex w) (leb (length w) (2 * wordMax)) h) in
-        omega (arith, length-bytesOf (length w / 2) w (omega arith))
+        omega (arith, length-hexBytes (length w / 2) w (omega arith))
 
 ran-small : (a : ℕ × List ℕ) (size : ℕ) → size ≤ outMax → Small (ran a size)
 ran-small a size h = record { fits = go (eqb (a .0) 0) }
@@ -111,7 +111,7 @@ count-small line n =
     (either (says line there) (wrap-small _ _) (either (says line back) (unwrap-small _ _) none-small))
     (either (eqb n 8)
     (either (says line ccmWord) (encrypt-small false _ _ _ _) none-small)
-    (either (eqb n 9) (either (named line gcmName) (mode-small line true) (either (named line ccmName) (mode-small line false) none-small)) none-small)))
+    (either (eqb n 9) (either (nameBegins line gcmName) (mode-small line true) (either (nameBegins line ccmName) (mode-small line false) none-small)) none-small)))
 
 outcome-small : (line : List ℕ) → Small (caseOutcome line)
 unfolding caseOutcome

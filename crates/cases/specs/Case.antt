@@ -9,10 +9,10 @@ use lib.ListN.{length, replicate}
 use Rattle.octets.specs.Lent.{when, answer}
 use Rattle.octets.specs.Same.{same}
 use Rattle.octets.specs.Tests.{every}
-use Rattle.wording.specs.Hex.{isHex, bytesOf}
+use Rattle.wording.specs.Hex.{isHex, hexBytes}
 use Rattle.aes.specs.Calls.{encryptBlock, decryptBlock}
 use Rattle.modes.specs.Mode.{Mode}
-use Rattle.modes.specs.Ccm.{ccm}
+use Rattle.modes.specs.Ccm.{tagSize, ccm}
 use Rattle.modes.specs.Gcm.{gcm}
 use Rattle.modes.specs.Calls.{encryptAnswer, decryptAnswer}
 use Rattle.keywrap.specs.Calls.{keySize, wrappedSize, wrapAnswer, unwrapAnswer}
@@ -29,28 +29,25 @@ unfoldable pub isBytes : List ℕ → Bool
 isBytes w = isDash w || (isHex w && leb (length w) (2 * wordMax))
 
 unfoldable pub bytesIn : List ℕ → List ℕ
-bytesIn w = when (isDash w) [] (bytesOf w)
+bytesIn w = when (isDash w) [] (hexBytes w)
 
 -- ---- an outcome: 0 where nothing is to be printed, 1 where the line is malformed, 2 where it ran; the number; the output's size; and the output with zeros after it
-
-abbrev pub tagSize : ℕ
-tagSize = 16
 
 abbrev pub outMax : ℕ
 outMax = wordMax + tagSize
 
 -- the room that each call is lent
-unfoldable pub zeros : List ℕ
-zeros = replicate outMax 0
+unfoldable pub lentRoom : List ℕ
+lentRoom = replicate outMax 0
 
 abbrev pub Outcome : Type 0
 Outcome = ℕ × ℕ × ℕ × List ℕ
 
 abbrev pub nothing : Outcome
-nothing = (0, 0, 0, zeros)
+nothing = (0, 0, 0, lentRoom)
 
 abbrev pub malformed : Outcome
-malformed = (1, 0, 0, zeros)
+malformed = (1, 0, 0, lentRoom)
 
 -- a call's answer over that room, and the size of its result
 abbrev pub ran : ℕ × List ℕ → ℕ → Outcome
@@ -70,25 +67,25 @@ blockBy false = decryptBlock
 unfoldable pub blockCase : Bool → ℕ → List ℕ → List ℕ → Outcome
 blockCase there n key block =
     let a : ℕ × List ℕ = rounds (blockBy there) n (bytesIn key) (bytesIn block) in
-    when (every (isBytes key ∷ isBytes block ∷ [])) (ran (answer (a .0) (a .1) zeros) (length (bytesIn block))) malformed
+    when (every (isBytes key ∷ isBytes block ∷ [])) (ran (answer (a .0) (a .1) lentRoom) (length (bytesIn block))) malformed
 
-abbrev pub modeOf : Bool → Mode
-modeOf true = gcm
-modeOf false = ccm
+abbrev pub modeBy : Bool → Mode
+modeBy true = gcm
+modeBy false = ccm
 
 unfoldable pub encryptCase : Bool → List ℕ → List ℕ → List ℕ → List ℕ → Outcome
 encryptCase isGcm key iv aad plain =
     when (every (isBytes key ∷ isBytes iv ∷ isBytes aad ∷ isBytes plain ∷ []))
-    (ran (encryptAnswer (modeOf isGcm) (bytesIn key) (bytesIn iv) (bytesIn aad) [] (bytesIn plain) zeros) (length (bytesIn plain) + tagSize)) malformed
+    (ran (encryptAnswer (modeBy isGcm) (bytesIn key) (bytesIn iv) (bytesIn aad) [] (bytesIn plain) lentRoom) (length (bytesIn plain) + tagSize)) malformed
 
 unfoldable pub decryptCase : Bool → List ℕ → List ℕ → List ℕ → List ℕ → List ℕ → Outcome
 decryptCase isGcm key iv aad text tag =
     when (every (isBytes key ∷ isBytes iv ∷ isBytes aad ∷ isBytes text ∷ isBytes tag ∷ []))
-    (ran (decryptAnswer (modeOf isGcm) (bytesIn key) (bytesIn iv) (bytesIn aad) [] (bytesIn text) (bytesIn tag) zeros) (length (bytesIn text))) malformed
+    (ran (decryptAnswer (modeBy isGcm) (bytesIn key) (bytesIn iv) (bytesIn aad) [] (bytesIn text) (bytesIn tag) lentRoom) (length (bytesIn text))) malformed
 
 unfoldable pub wrapCase : List ℕ → List ℕ → Outcome
-wrapCase kek key = when (every (isBytes kek ∷ isBytes key ∷ [])) (ran (wrapAnswer (bytesIn kek) (bytesIn key) zeros) wrappedSize) malformed
+wrapCase kek key = when (every (isBytes kek ∷ isBytes key ∷ [])) (ran (wrapAnswer (bytesIn kek) (bytesIn key) lentRoom) wrappedSize) malformed
 
 unfoldable pub unwrapCase : List ℕ → List ℕ → Outcome
 unwrapCase kek wrapped =
-    when (every (isBytes kek ∷ isBytes wrapped ∷ [])) (ran (unwrapAnswer (bytesIn kek) (bytesIn wrapped) zeros) keySize) malformed
+    when (every (isBytes kek ∷ isBytes wrapped ∷ [])) (ran (unwrapAnswer (bytesIn kek) (bytesIn wrapped) lentRoom) keySize) malformed

@@ -43,18 +43,18 @@ module _ (line : List ℕ) where
   abbrev pub says : List ℕ → Bool
   says w = same (wordAt line 1) w
 
-  abbrev pub named : List ℕ → Bool
-  named front = begins front (wordAt line 0)
+  abbrev pub nameBegins : List ℕ → Bool
+  nameBegins front = begins front (wordAt line 0)
 
   -- the Monte Carlo test: "each output the next input"
-  abbrev pub times : ℕ
-  times = when (named monteCarlo) 1000 1
+  abbrev pub runs : ℕ
+  runs = when (nameBegins monteCarlo) 1000 1
 
   -- NAME E|D key in out; NAME kw_unwrap number kek wrapped
   unfoldable pub ofFive : Outcome
   ofFive =
-      when (says there) (blockCase true times (wordAt line 2) (wordAt line 3))
-      (when (says back) (blockCase false times (wordAt line 2) (wordAt line 3))
+      when (says there) (blockCase true runs (wordAt line 2) (wordAt line 3))
+      (when (says back) (blockCase false runs (wordAt line 2) (wordAt line 3))
       (when (says unwrapWord) (unwrapCase (wordAt line 3) (wordAt line 4)) malformed))
 
   -- NAME E|D number kek key wrapped
@@ -74,7 +74,7 @@ module _ (line : List ℕ) where
       (when (says back) (decryptCase isGcm (wordAt line 3) (wordAt line 4) (wordAt line 5) (wordAt line 7) (wordAt line 8)) malformed)
 
   unfoldable pub ofNine : Outcome
-  ofNine = when (named gcmName) (ofMode true) (when (named ccmName) (ofMode false) malformed)
+  ofNine = when (nameBegins gcmName) (ofMode true) (when (nameBegins ccmName) (ofMode false) malformed)
 
   unfoldable pub byCount : ℕ → Outcome
   byCount n = when (eqb n 5) ofFive (when (eqb n 6) ofSix (when (eqb n 8) ofEight (when (eqb n 9) ofNine malformed)))

@@ -10,7 +10,8 @@ ghost use lib.ListN.{length};
 ghost use Rattle.octets.specs.Lent.{answer};
 ghost use Rattle.modes.specs.Calls.{encryptAnswer, decryptAnswer};
 ghost use Rattle.keywrap.specs.Calls.{keySize, wrappedSize, wrapAnswer, unwrapAnswer};
-ghost use Rattle.cases.specs.Case.{wordMax, tagSize, zeros, ran, rounds, blockBy, modeOf};
+ghost use Rattle.modes.specs.Ccm.{tagSize};
+ghost use Rattle.cases.specs.Case.{wordMax, lentRoom, ran, rounds, blockBy, modeBy};
 
 // AES-256, one block that many times over.
 
@@ -39,7 +40,7 @@ fn all_rounds(there: bool, times: usize, key: &[u8], block: &mut [u8]) -> u8
 
 pub(crate) fn run_block(there: bool, times: usize, key: &[u8], block: &[u8]) -> Outcome
     requires { ⌜ length (now block) ≤ wordMax ⌝ }
-    ensures { λ r. ⌜ ran (answer (rounds (blockBy there) times (now (key .entry)) (now (block .entry)) .0) (rounds (blockBy there) times (now (key .entry)) (now (block .entry)) .1) zeros) (length (now (block .entry))) ≡ (r .kind, r .number, r .size, r .bytes) ⌝ }
+    ensures { λ r. ⌜ ran (answer (rounds (blockBy there) times (now (key .entry)) (now (block .entry)) .0) (rounds (blockBy there) times (now (key .entry)) (now (block .entry)) .1) lentRoom) (length (now (block .entry))) ≡ (r .kind, r .number, r .size, r .bytes) ⌝ }
 {
     let mut out = out_room();
     put(&mut out, block);
@@ -54,7 +55,7 @@ pub(crate) fn run_block(there: bool, times: usize, key: &[u8], block: &[u8]) -> 
 // A mode.
 
 fn encrypt_by(is_gcm: bool, key: &[u8], iv: &[u8], aad: &[u8], plain: &[u8], out: &mut [u8]) -> u8
-    ensures { λ r. ⌜ encryptAnswer (modeOf «is_gcm») (now (key .entry)) (now (iv .entry)) (now (aad .entry)) [] (now (plain .entry)) (now (out .entry)) ≡ (r, now (out .exit)) ⌝ }
+    ensures { λ r. ⌜ encryptAnswer (modeBy «is_gcm») (now (key .entry)) (now (iv .entry)) (now (aad .entry)) [] (now (plain .entry)) (now (out .entry)) ≡ (r, now (out .exit)) ⌝ }
 {
     if is_gcm {
         return modes::gcm::encrypt(key, iv, aad, plain, out);
@@ -64,7 +65,7 @@ fn encrypt_by(is_gcm: bool, key: &[u8], iv: &[u8], aad: &[u8], plain: &[u8], out
 
 pub(crate) fn run_encrypt(is_gcm: bool, key: &[u8], iv: &[u8], aad: &[u8], plain: &[u8]) -> Outcome
     requires { ⌜ length (now plain) ≤ wordMax ⌝ }
-    ensures { λ r. ⌜ ran (encryptAnswer (modeOf «is_gcm») (now (key .entry)) (now (iv .entry)) (now (aad .entry)) [] (now (plain .entry)) zeros) (length (now (plain .entry)) + tagSize) ≡ (r .kind, r .number, r .size, r .bytes) ⌝ }
+    ensures { λ r. ⌜ ran (encryptAnswer (modeBy «is_gcm») (now (key .entry)) (now (iv .entry)) (now (aad .entry)) [] (now (plain .entry)) lentRoom) (length (now (plain .entry)) + tagSize) ≡ (r .kind, r .number, r .size, r .bytes) ⌝ }
 {
     let mut out = out_room();
     let number = encrypt_by(is_gcm, key, iv, aad, plain, &mut out);
@@ -80,7 +81,7 @@ fn decrypt_by(
     tag: &[u8],
     out: &mut [u8],
 ) -> u8
-    ensures { λ r. ⌜ decryptAnswer (modeOf «is_gcm») (now (key .entry)) (now (iv .entry)) (now (aad .entry)) [] (now (text .entry)) (now (tag .entry)) (now (out .entry)) ≡ (r, now (out .exit)) ⌝ }
+    ensures { λ r. ⌜ decryptAnswer (modeBy «is_gcm») (now (key .entry)) (now (iv .entry)) (now (aad .entry)) [] (now (text .entry)) (now (tag .entry)) (now (out .entry)) ≡ (r, now (out .exit)) ⌝ }
 {
     if is_gcm {
         return modes::gcm::decrypt(key, iv, aad, text, tag, out);
@@ -96,7 +97,7 @@ pub(crate) fn run_decrypt(
     text: &[u8],
     tag: &[u8],
 ) -> Outcome
-    ensures { λ r. ⌜ ran (decryptAnswer (modeOf «is_gcm») (now (key .entry)) (now (iv .entry)) (now (aad .entry)) [] (now (text .entry)) (now (tag .entry)) zeros) (length (now (text .entry))) ≡ (r .kind, r .number, r .size, r .bytes) ⌝ }
+    ensures { λ r. ⌜ ran (decryptAnswer (modeBy «is_gcm») (now (key .entry)) (now (iv .entry)) (now (aad .entry)) [] (now (text .entry)) (now (tag .entry)) lentRoom) (length (now (text .entry))) ≡ (r .kind, r .number, r .size, r .bytes) ⌝ }
 {
     let mut out = out_room();
     let number = decrypt_by(is_gcm, key, iv, aad, text, tag, &mut out);
@@ -106,7 +107,7 @@ pub(crate) fn run_decrypt(
 // Key wrap.
 
 pub(crate) fn run_wrap(kek: &[u8], key: &[u8]) -> Outcome
-    ensures { λ r. ⌜ ran (wrapAnswer (now (kek .entry)) (now (key .entry)) zeros) wrappedSize ≡ (r .kind, r .number, r .size, r .bytes) ⌝ }
+    ensures { λ r. ⌜ ran (wrapAnswer (now (kek .entry)) (now (key .entry)) lentRoom) wrappedSize ≡ (r .kind, r .number, r .size, r .bytes) ⌝ }
 {
     let mut out = out_room();
     let number = keywrap::wrap(kek, key, &mut out);
@@ -114,7 +115,7 @@ pub(crate) fn run_wrap(kek: &[u8], key: &[u8]) -> Outcome
 }
 
 pub(crate) fn run_unwrap(kek: &[u8], wrapped: &[u8]) -> Outcome
-    ensures { λ r. ⌜ ran (unwrapAnswer (now (kek .entry)) (now (wrapped .entry)) zeros) keySize ≡ (r .kind, r .number, r .size, r .bytes) ⌝ }
+    ensures { λ r. ⌜ ran (unwrapAnswer (now (kek .entry)) (now (wrapped .entry)) lentRoom) keySize ≡ (r .kind, r .number, r .size, r .bytes) ⌝ }
 {
     let mut out = out_room();
     let number = keywrap::unwrap(kek, wrapped, &mut out);

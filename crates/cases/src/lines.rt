@@ -10,7 +10,7 @@ use crate::words::is_word;
 use crate::words::name_begins;
 use crate::words::word;
 ghost use mathlib.Core.Path.{_≡_};
-ghost use Rattle.cases.specs.Line.{times, ofFive, ofSix, ofEight, ofMode, ofNine, byCount, isComment};
+ghost use Rattle.cases.specs.Line.{runs, ofFive, ofSix, ofEight, ofMode, ofNine, byCount, isComment};
 
 // An empty line, or one that begins with `#`.
 pub(crate) fn is_comment(line: &[u8]) -> bool
@@ -24,7 +24,7 @@ pub(crate) fn is_comment(line: &[u8]) -> bool
 
 // 1,000 rounds for the Monte Carlo test.
 fn times_of(line: &[u8]) -> usize
-    ensures { λ r. ⌜ r ≡ times (now (line .entry)) ⌝ }
+    ensures { λ r. ⌜ r ≡ runs (now (line .entry)) ⌝ }
 {
     if name_begins(line, b"ECBMCT") {
         return 1000;

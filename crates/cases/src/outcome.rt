@@ -1,7 +1,7 @@
 // What a line comes to, by value.
 ghost use mathlib.Core.Path.{_≡_};
 ghost use lib.ListN.{length};
-ghost use Rattle.cases.specs.Case.{wordMax, zeros, nothing, malformed, ran};
+ghost use Rattle.cases.specs.Case.{wordMax, lentRoom, nothing, malformed, ran};
 
 pub const NOTHING: u8 = 0;
 
@@ -26,7 +26,7 @@ pub(crate) fn word_room() -> [u8; 4352]
 }
 
 pub(crate) fn out_room() -> [u8; 4368]
-    ensures { λ r. ⌜ r ≡ zeros ⌝ }
+    ensures { λ r. ⌜ r ≡ lentRoom ⌝ }
 {
     [0u8; 4368]
 }

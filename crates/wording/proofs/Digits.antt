@@ -14,7 +14,7 @@ use Rattle.octets.specs.Lent.{over}
 use Rattle.octets.specs.Tests.{all}
 use Rattle.octets.proofs.Tests.{and-left, and-right}
 use Rattle.octets.proofs.Lent.{over-fits}
-use Rattle.wording.specs.Hex.{between, isDigit, digitValue, digitOf, isHex, byteOf, bytesOf, digitsOf, hexRead, hexWrite}
+use Rattle.wording.specs.Hex.{between, isDigit, digitValue, digitOf, isHex, hexByte, hexBytes, digitsOf, hexRead, hexWrite}
 
 -- ---- one digit
 
@@ -85,20 +85,20 @@ more-written p d i v e h =
 double : (k : ℕ) → 2 * suc k ≡ suc (suc (2 * k))
 double k = omega arith
 
-pub length-bytesOf : (k : ℕ) (s : List ℕ) → length s ≡ 2 * k → length (bytesOf s) ≡ k
-unfolding bytesOf
-length-bytesOf zero [] e = refl
-length-bytesOf (suc k) [] e = absurd (omega arith)
-length-bytesOf k (a ∷ []) e = absurd (omega arith)
-length-bytesOf zero (a ∷ b ∷ s) e = absurd (omega arith)
-length-bytesOf (suc k) (a ∷ b ∷ s) e = ap suc (length-bytesOf k s (omega arith))
+pub length-hexBytes : (k : ℕ) (s : List ℕ) → length s ≡ 2 * k → length (hexBytes s) ≡ k
+unfolding hexBytes
+length-hexBytes zero [] e = refl
+length-hexBytes (suc k) [] e = absurd (omega arith)
+length-hexBytes k (a ∷ []) e = absurd (omega arith)
+length-hexBytes zero (a ∷ b ∷ s) e = absurd (omega arith)
+length-hexBytes (suc k) (a ∷ b ∷ s) e = ap suc (length-hexBytes k s (omega arith))
 
-bytesOf-append : (k : ℕ) (s t : List ℕ) → length s ≡ 2 * k → bytesOf (s ++ t) ≡ bytesOf s ++ bytesOf t
-unfolding bytesOf
-bytesOf-append k [] t e = refl
-bytesOf-append k (a ∷ []) t e = absurd (omega arith)
-bytesOf-append zero (a ∷ b ∷ s) t e = absurd (omega arith)
-bytesOf-append (suc k) (a ∷ b ∷ s) t e = ap (λ (l : List ℕ). byteOf a b ∷ l) (bytesOf-append k s t (omega arith))
+hexBytes-append : (k : ℕ) (s t : List ℕ) → length s ≡ 2 * k → hexBytes (s ++ t) ≡ hexBytes s ++ hexBytes t
+unfolding hexBytes
+hexBytes-append k [] t e = refl
+hexBytes-append k (a ∷ []) t e = absurd (omega arith)
+hexBytes-append zero (a ∷ b ∷ s) t e = absurd (omega arith)
+hexBytes-append (suc k) (a ∷ b ∷ s) t e = ap (λ (l : List ℕ). hexByte a b ∷ l) (hexBytes-append k s t (omega arith))
 
 take-two : (s : List ℕ) (n : ℕ) → n + 1 < length s → take (n + 2) s ≡ take n s ++ getD s n 0 ∷ getD s (n + 1) 0 ∷ []
 take-two s n h =
@@ -110,21 +110,21 @@ take-two s n h =
 
 module _ (word out : List ℕ) (i : ℕ) where
   pub bytes-turn : i < length word / 2 → i < length out
-      → set (bytesOf (take (2 * i) word) ++ drop i out) i (byteOf (getD word (2 * i) 0) (getD word (2 * i + 1) 0))
-      ≡ bytesOf (take (2 * (i + 1)) word) ++ drop (i + 1) out
-  unfolding bytesOf
+      → set (hexBytes (take (2 * i) word) ++ drop i out) i (hexByte (getD word (2 * i) 0) (getD word (2 * i + 1) 0))
+      ≡ hexBytes (take (2 * (i + 1)) word) ++ drop (i + 1) out
+  unfolding hexBytes
   bytes-turn h r =
       let next : 2 * (i + 1) ≡ 2 * i + 2 = omega arith in
       let size : length (take (2 * i) word) ≡ 2 * i = length-take-le (2 * i) word (omega arith) in
-      more-written (bytesOf (take (2 * i) word)) out i _ (length-bytesOf i (take (2 * i) word) size) r
+      more-written (hexBytes (take (2 * i) word)) out i _ (length-hexBytes i (take (2 * i) word) size) r
       ∙ ap (λ (l : List ℕ). l ++ drop (i + 1) out)
-      (sym (bytesOf-append i (take (2 * i) word) _ size) ∙ ap bytesOf (sym (ap (λ (n : ℕ). take n word) next ∙ take-two word (2 * i) (omega arith))))
+      (sym (hexBytes-append i (take (2 * i) word) _ size) ∙ ap hexBytes (sym (ap (λ (n : ℕ). take n word) next ∙ take-two word (2 * i) (omega arith))))
 
-  pub bytes-end : length word % 2 ≡ 0 → i ≡ length word / 2 → i ≤ length out → bytesOf (take (2 * i) word) ++ drop i out ≡ over (bytesOf word) out
+  pub bytes-end : length word % 2 ≡ 0 → i ≡ length word / 2 → i ≤ length out → hexBytes (take (2 * i) word) ++ drop i out ≡ over (hexBytes word) out
   bytes-end even e room =
       let whole : take (2 * i) word ≡ word = take-all (2 * i) word (omega arith) in
-      let size : length (bytesOf word) ≡ i = length-bytesOf i word (omega arith) in
-      ap (λ (l : List ℕ). bytesOf l ++ drop i out) whole ∙ sym (over-fits (bytesOf word) out (omega arith) ∙ ap (λ (n : ℕ). bytesOf word ++ drop n out) size)
+      let size : length (hexBytes word) ≡ i = length-hexBytes i word (omega arith) in
+      ap (λ (l : List ℕ). hexBytes l ++ drop i out) whole ∙ sym (over-fits (hexBytes word) out (omega arith) ∙ ap (λ (n : ℕ). hexBytes word ++ drop n out) size)
 
 -- ---- digits
 
@@ -173,7 +173,7 @@ module _ (word out : List ℕ) where
   unfolding hexRead
   read-no-room e h = rw (e, lt-ltb (length out) (length word / 2) h)
 
-  pub read-done : isHex word ≡ true → length word / 2 ≤ length out → hexRead word out ≡ (0, over (bytesOf word) out)
+  pub read-done : isHex word ≡ true → length word / 2 ≤ length out → hexRead word out ≡ (0, over (hexBytes word) out)
   unfolding hexRead
   read-done e h = rw (e, le-ltb (length out) (length word / 2) h)
 

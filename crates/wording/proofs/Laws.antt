@@ -13,7 +13,7 @@ use Rattle.octets.specs.Tests.{all}
 use Rattle.octets.proofs.Bytes.{bytes-head, bytes-tail}
 use Rattle.octets.proofs.Values.{cons-equal}
 use Rattle.octets.proofs.Lent.{one-answer}
-use Rattle.wording.specs.Hex.{isDigit, digitOf, isHex, byteOf, bytesOf, digitsOf}
+use Rattle.wording.specs.Hex.{isDigit, digitOf, isHex, hexByte, hexBytes, digitsOf}
 use Rattle.wording.specs.Laws.{DigitsLength, ThereAndBack, ReadUnique, WriteUnique}
 use Rattle.wording.proofs.Digits.{digit-is, digit-counts, length-digitsOf, read-done}
 
@@ -22,11 +22,11 @@ digits-length = length-digitsOf
 
 -- ---- there and back
 
-byte-back : (b : ℕ) → b < 256 → byteOf (digitOf (b / 16)) (digitOf (b % 16)) ≡ b
+byte-back : (b : ℕ) → b < 256 → hexByte (digitOf (b / 16)) (digitOf (b % 16)) ≡ b
 byte-back b h = rw (digit-counts (b / 16) (omega arith), digit-counts (b % 16) (omega arith)) (omega arith)
 
-bytes-back : {s : List ℕ} → Bytes s → bytesOf (digitsOf s) ≡ s
-unfolding bytesOf digitsOf
+bytes-back : {s : List ℕ} → Bytes s → hexBytes (digitsOf s) ≡ s
+unfolding hexBytes digitsOf
 bytes-back {s = []} h = refl
 bytes-back {s = b ∷ s} h = cons-equal (byte-back b (bytes-head h)) (bytes-back (bytes-tail h))
 

@@ -27,13 +27,13 @@ digitOf d = when (ltb d 10) (48 + d) (87 + d)
 unfoldable pub isHex : List ℕ → Bool
 isHex word = eqb (length word % 2) 0 && all isDigit word
 
-abbrev pub byteOf : ℕ → ℕ → ℕ
-byteOf a b = digitValue a * 16 + digitValue b
+abbrev pub hexByte : ℕ → ℕ → ℕ
+hexByte a b = digitValue a * 16 + digitValue b
 
-unfoldable pub bytesOf : List ℕ → List ℕ
-bytesOf [] = []
-bytesOf (a ∷ []) = []
-bytesOf (a ∷ b ∷ word) = byteOf a b ∷ bytesOf word
+unfoldable pub hexBytes : List ℕ → List ℕ
+hexBytes [] = []
+hexBytes (a ∷ []) = []
+hexBytes (a ∷ b ∷ word) = hexByte a b ∷ hexBytes word
 
 unfoldable pub digitsOf : List ℕ → List ℕ
 digitsOf [] = []
@@ -42,7 +42,7 @@ digitsOf (b ∷ s) = digitOf (b / 16) ∷ digitOf (b % 16) ∷ digitsOf s
 -- ---- the calls: their numbers, and the lent output after them
 
 unfoldable pub hexRead : List ℕ → List ℕ → ℕ × List ℕ
-hexRead word out = answer (lowest ((2, not (isHex word)) ∷ (5, ltb (length out) (length word / 2)) ∷ [])) (bytesOf word) out
+hexRead word out = answer (lowest ((2, not (isHex word)) ∷ (5, ltb (length out) (length word / 2)) ∷ [])) (hexBytes word) out
 
 unfoldable pub hexWrite : List ℕ → List ℕ → ℕ × List ℕ
 hexWrite s out = answer (lowest ((5, ltb (length out) (2 * length s)) ∷ [])) (digitsOf s) out

@@ -4,7 +4,7 @@ ghost use Prim.Native.Nat.{_*_, _/_, _%_, _≤_, _<_};
 ghost use lib.ListN.{length};
 ghost use Rattle.octets.specs.Lent.{over};
 ghost use Rattle.octets.specs.Tests.{all};
-ghost use Rattle.wording.specs.Hex.{between, isDigit, digitValue, byteOf, bytesOf, isHex, digitOf, digitsOf, hexRead, hexWrite};
+ghost use Rattle.wording.specs.Hex.{between, isDigit, digitValue, hexByte, hexBytes, isHex, digitOf, digitsOf, hexRead, hexWrite};
 
 fn lies_between(c: u8, low: u8, high: u8) -> bool
     ensures { λ r. ⌜ r ≡ between low high c ⌝ }
@@ -53,7 +53,7 @@ fn digit_value(c: u8) -> u8
 }
 
 fn byte_of(a: u8, b: u8) -> u8
-    ensures { λ r. ⌜ r ≡ byteOf a b ⌝ }
+    ensures { λ r. ⌜ r ≡ hexByte a b ⌝ }
 {
     digit_value(a) * 16 + digit_value(b)
 }
@@ -80,7 +80,7 @@ fn is_hex(word: &[u8]) -> bool
 // The bytes over the front of out, one for each two digits.
 fn fill_bytes(word: &[u8], out: &mut [u8])
     requires { ⌜ (length (now word) % 2 ≡ 0) × (length (now word) / 2 ≤ length (now out)) ⌝ }
-    ensures { λ _. ⌜ now (out .exit) ≡ over (bytesOf (now (word .entry))) (now (out .entry)) ⌝ }
+    ensures { λ _. ⌜ now (out .exit) ≡ over (hexBytes (now (word .entry))) (now (out .entry)) ⌝ }
 {
     let mut i = 0;
     while i < word.len() / 2 {

@@ -3,7 +3,7 @@
 use mathlib.Core.List.{[]}
 use borrow.Author.Needs.{needs}
 use Rattle.modes.specs.Calls.{decryptAnswer}
-use Rattle.cases.specs.Case.{modeOf}
+use Rattle.cases.specs.Case.{modeBy}
 use Rattle.cases.proofs.Ran.{ran-called}
 use Rattle.cases.proofs.calls.run_decrypt.Statement.{statement}
 use Rattle.cases.proofs.calls.run_decrypt.Tie as tie
@@ -13,7 +13,7 @@ returns c =
     let called = c .before .before in
     let room = called .before .before in
     let s = room .before .before .before .before .before .before .args in
-    ran-called (decryptAnswer (modeOf (s .is-gcm)) (s .key .now) (s .iv .now) (s .aad .now) [] (s .text .now) (s .tag .now)) _ _ _ _ _
+    ran-called (decryptAnswer (modeBy (s .is-gcm)) (s .key .now) (s .iv .now) (s .aad .now) [] (s .text .now) (s .tag .now)) _ _ _ _ _
     (room .out-room .ensures) (called .decrypt-by .ensures) (c .ran-case .ensures)
 
 pub run-decrypt-spec : {M : Type 1} → statement M

@@ -4,14 +4,14 @@ use mathlib.Core.Path.{_≡_, sym, _∙_}
 use mathlib.Core.Bool.{false}
 use borrow.Author.Needs.{needs}
 use denote.Ref.{now}
-use Rattle.cases.specs.Line.{gcmName, ccmName, named, ofNine}
+use Rattle.cases.specs.Line.{gcmName, ccmName, nameBegins, ofNine}
 use Rattle.cases.proofs.lines.of_nine.Statement.{statement}
 use Rattle.cases.proofs.lines.of_nine.Tie as tie
 
-no-gcm : (c : tie.Else1) → named (now (c .before .before .before .before .args .line)) gcmName ≡ false
+no-gcm : (c : tie.Else1) → nameBegins (now (c .before .before .before .before .args .line)) gcmName ≡ false
 no-gcm c = sym (c .before .name-begins .ensures) ∙ c .if1 .left
 
-no-ccm : (c : tie.Else2) → named (now (c .before .before .before .before .before .before .before .args .line)) ccmName ≡ false
+no-ccm : (c : tie.Else2) → nameBegins (now (c .before .before .before .before .before .before .before .args .line)) ccmName ≡ false
 no-ccm c = sym (c .before .name-begins2 .ensures) ∙ c .if2 .left
 
 returns : tie.Need-returns

@@ -6,19 +6,19 @@ use Prim.Native.Nat.{ℕ, _-_, _*_, _/_, _≤_}
 use native.Mathlib.Omega.{arith}
 use borrow.Author.Needs.{needs}
 use lib.ListN.{length, take, drop, length-set}
-use Rattle.wording.specs.Hex.{bytesOf}
+use Rattle.wording.specs.Hex.{hexBytes}
 use Rattle.wording.proofs.Digits.{bytes-turn, bytes-end}
 use Rattle.wording.proofs.hex.fill_bytes.Statement.{statement}
 use Rattle.wording.proofs.hex.fill_bytes.Tie as tie
 
 abbrev Inv-loop : tie.InvT-loop
-Inv-loop word out₀ i₀ out i = (i ≤ length word / 2) × (length out ≡ length out₀) × (out ≡ bytesOf (take (2 * i) word) ++ drop i out₀)
+Inv-loop word out₀ i₀ out i = (i ≤ length word / 2) × (length out ≡ length out₀) × (out ≡ hexBytes (take (2 * i) word) ++ drop i out₀)
 
 abbrev μ-loop : tie.MeasureT-loop
 μ-loop word out₀ i₀ out i = length word / 2 - i
 
 loop-holds : tie.Need-loop-holds Inv-loop μ-loop
-unfolding bytesOf
+unfolding hexBytes
 loop-holds c = (omega arith, refl, refl)
 
 slice-write-out : tie.Need-slice-write-out Inv-loop μ-loop
