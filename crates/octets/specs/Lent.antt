@@ -10,8 +10,12 @@ abbrev pub when : {A : Type 0} → Bool → A → A → A
 when true a b = a
 when false a b = b
 
--- "The lowest that applies is given, and no other": numbers in rising order, each with whether it applies, and else 0
-abbrev pub lowest : List (ℕ × Bool) → ℕ
+-- a list of tests: numbers, each with whether it applies
+abbrev pub Tests : Type 0
+Tests = List (ℕ × Bool)
+
+-- "The lowest that applies is given, and no other": the first that applies of tests whose numbers rise (`rises` of specs/Lowest.antt), and else 0
+abbrev pub lowest : Tests → ℕ
 lowest [] = 0
 lowest (n ∷ ns) = when (n .1) (n .0) (lowest ns)
 
@@ -23,6 +27,10 @@ isNot n s = not (eqb (length s) n)
 abbrev pub over : List ℕ → List ℕ → List ℕ
 over s d = take (length d) s ++ drop (length s) d
 
+-- what is lent to be stored to, after the number n: the new value after 0 alone, and after any other what it held before
+abbrev pub kept : {A : Type 0} → ℕ → A → A → A
+kept n new before = when (eqb n 0) new before
+
 -- a number, and the lent output after it: the result over its front after 0, and after any other as it was before
 abbrev pub answer : ℕ → List ℕ → List ℕ → ℕ × List ℕ
-answer n result before = (n, when (eqb n 0) (over result before) before)
+answer n result before = (n, kept n (over result before) before)

@@ -4,6 +4,8 @@ pub mod BigEndian
 pub mod Xor
 pub mod Same
 pub mod Lent
+pub mod Lowest
+pub mod Unique
 pub mod Blocks
 pub mod Running
 pub mod Tests
