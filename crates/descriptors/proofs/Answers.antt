@@ -8,15 +8,21 @@ use native.Mathlib.Omega.{arith}
 use borrow.Author.Tests.{lt-ltb, le-ltb, ne-eqb}
 use lib.Dec.{eqb}
 use lib.ListN.{length, getD, drop}
-use Rattle.octets.specs.Lent.{when, lowest}
+use Rattle.octets.specs.Lent.{lowest, kept}
 use Rattle.octets.specs.Tests.{every}
 use Rattle.descriptors.specs.Tested.{Answer, testedSays, listOk, listNumber, listAnswer, listCheck, countOf}
 use Rattle.descriptors.specs.Parse.{split}
 use Rattle.descriptors.specs.Steps.{splitStep, stepAnswer, opened, begunOf, advanceOf, placesAfter, listStep}
-use Rattle.descriptors.specs.Labels.{labelMax, listOf, labelTests, labelOk, labelNumber, labelAnswer, labelCheck}
+use Rattle.descriptors.specs.Labels.{labelMax, listOf, labelShape, labelOk, labelNumber, labelAnswer, labelCheck}
 use Rattle.descriptors.specs.declared.cursor.Advance.{Advance}
 use Rattle.descriptors.specs.declared.list.Tested.{Tested}
 use Rattle.descriptors.specs.declared.list.Tested.the-variants.{Counted, Refused}
+
+-- 0 and one value that comes with it
+zero-counted : (m k n : ℕ) → _≡_ {A = Answer} (m, kept m (k ∷ []) []) (0, n ∷ []) → (m ≡ 0) × (n ≡ k)
+zero-counted m k n e =
+    let none : m ≡ 0 = ap (λ (a : Answer). a .0) e in
+    (none, ap (λ (a : Answer). getD (a .1) 0 0) (sym e ∙ ap (λ (x : ℕ). (x, kept x (k ∷ []) [])) none))
 
 module _ (label strict : Bool) (s : List ℕ) where
   pub list-refused : listOk label strict s ≡ false → listAnswer label strict s ≡ (2, [])
@@ -25,28 +31,27 @@ module _ (label strict : Bool) (s : List ℕ) where
   pub list-accepted : (n : ℕ) → listOk label strict s ≡ true → n ≡ countOf label s → listAnswer label strict s ≡ (0, n ∷ [])
   list-accepted n e f = rw (e, f)
 
-  -- what each case of the test's answer tells of the list
-  module _ (r : Tested) (e : testedSays r ≡ listAnswer label strict s) where
-    pub counted-tells : (n : ℕ) → r ≡ Counted n → (listOk label strict s ≡ true) × (n ≡ countOf label s)
-    counted-tells n is = go (listOk label strict s) (sym (ap testedSays is) ∙ e)
-      where
-        go : (ok : Bool) → _≡_ {A = Answer} (0, n ∷ []) (lowest ((2, not ok) ∷ []), when ok (countOf label s ∷ []) []) → (ok ≡ true) × (n ≡ countOf label s)
-        go true h = (refl, ap (λ (a : Answer). getD (a .1) 0 0) h)
-        go false h = absurd (let z : _≡_ {A = ℕ} 0 2 = ap (λ (a : Answer). a .0) h in omega arith)
-
-    pub refused-tells : r ≡ Refused → listOk label strict s ≡ false
-    refused-tells is = go (listOk label strict s) (sym (ap testedSays is) ∙ e)
-      where
-        go : (ok : Bool) → _≡_ {A = Answer} (2, []) (lowest ((2, not ok) ∷ []), when ok (countOf label s ∷ []) []) → ok ≡ false
-        go true h = absurd (let z : _≡_ {A = ℕ} 2 0 = ap (λ (a : Answer). a .0) h in omega arith)
-        go false h = refl
-
   pub number-ok : listNumber label strict s ≡ 0 → listOk label strict s ≡ true
   number-ok e = go (listOk label strict s) e
     where
       go : (ok : Bool) → lowest ((2, not ok) ∷ []) ≡ 0 → ok ≡ true
       go true h = refl
       go false h = absurd (omega arith)
+
+  pub ok-counted : (n : ℕ) → listAnswer label strict s ≡ (0, n ∷ []) → (listOk label strict s ≡ true) × (n ≡ countOf label s)
+  ok-counted n e = let (none, is) = zero-counted _ _ n e in (number-ok none, is)
+
+  -- what each case of the test's answer tells of the list
+  module _ (r : Tested) (e : testedSays r ≡ listAnswer label strict s) where
+    pub counted-tells : (n : ℕ) → r ≡ Counted n → (listOk label strict s ≡ true) × (n ≡ countOf label s)
+    counted-tells n is = ok-counted n (sym e ∙ ap testedSays is)
+
+    pub refused-tells : r ≡ Refused → listOk label strict s ≡ false
+    refused-tells is = go (listOk label strict s) (ap (λ (a : Answer). a .0) (sym e ∙ ap testedSays is))
+      where
+        go : (ok : Bool) → lowest ((2, not ok) ∷ []) ≡ 2 → ok ≡ false
+        go true h = absurd (omega arith)
+        go false h = refl
 
   -- so opening, and the call with a lent count
   pub begun-counted : (n : ℕ) → listOk label strict s ≡ true → n ≡ countOf label s → record { number = 0; count = n; place = opened label strict } ≡ begunOf s label strict
@@ -90,26 +95,24 @@ module _ (s : List ℕ) where
   pub label-accepted : (n : ℕ) → labelOk s ≡ true → length s ≤ labelMax → n ≡ countOf true (listOf s) → labelAnswer s ≡ (0, n ∷ [])
   label-accepted n e h is = rw (e, le-ltb labelMax (length s) h, is)
 
-  pub label-shapeless : every (labelTests s) ≡ false → labelOk s ≡ false
+  pub label-shapeless : every (labelShape s) ≡ false → labelOk s ≡ false
   unfolding labelOk
   label-shapeless e = rw e
 
-  pub label-list : every (labelTests s) ≡ true → labelOk s ≡ listOk true false (listOf s)
+  pub label-list : every (labelShape s) ≡ true → labelOk s ≡ listOk true false (listOf s)
   unfolding labelOk
   label-list e = rw e
 
   pub label-count : (n : ℕ) → labelAnswer s ≡ (0, n ∷ []) → (labelNumber s ≡ 0) × (n ≡ countOf true (listOf s))
-  label-count n e =
-      let none : labelNumber s ≡ 0 = ap (λ (a : Answer). a .0) e in
-      (none, ap (λ (a : Answer). getD (a .1) 0 0) (sym e ∙ ap (λ (m : ℕ). (m, when (eqb m 0) (countOf true (listOf s) ∷ []) [])) none))
+  label-count n e = zero-counted _ _ n e
 
   -- the call with a lent count, by the label's answer
   module _ (before : ℕ) where
     pub lent-counted : (n : ℕ) → labelAnswer s ≡ (0, n ∷ []) → labelCheck s before ≡ (0, n)
     lent-counted n e =
         let (none, is) = label-count n e in
-        ap (λ (m : ℕ). (m, when (eqb m 0) (countOf true (listOf s)) before)) none ∙ ap (λ (m : ℕ). (0, m)) (sym is)
+        ap (λ (m : ℕ). (m, kept m (countOf true (listOf s)) before)) none ∙ ap (λ (m : ℕ). (0, m)) (sym is)
 
     pub lent-refused : (number : ℕ) → eqb number 0 ≡ false → labelAnswer s ≡ (number, []) → labelCheck s before ≡ (number, before)
     lent-refused number some e =
-        ap (λ (m : ℕ). (m, when (eqb m 0) (countOf true (listOf s)) before)) (ap (λ (a : Answer). a .0) e) ∙ rw some
+        ap (λ (m : ℕ). (m, kept m (countOf true (listOf s)) before)) (ap (λ (a : Answer). a .0) e) ∙ rw some

@@ -15,15 +15,15 @@ use Rattle.octets.proofs.Tests.{and-left, and-right, every-at}
 use Rattle.octets.proofs.Values.{cons-equal}
 use Rattle.descriptors.specs.Descriptor.{typeOf, isReserved, isRefused, isDescriptor, sizeOf, sizeSaid}
 use Rattle.descriptors.specs.Parse.{Split, split, parse}
-use Rattle.descriptors.specs.Tested.{Answer, admits, risesFrom, splitTests, splitOk, listOk, unreserved, listAnswer, countOf}
+use Rattle.descriptors.specs.Tested.{Answer, admits, risesFrom, splitTests, splitOk, listOk, unreserved, listAnswer}
 use Rattle.descriptors.specs.Steps.{firstShown, splitStep, stepAnswer, advanceOf}
-use Rattle.descriptors.specs.Labels.{labelMax, listOf, labelTests, labelOk, labelNumber, labelAnswer, present}
+use Rattle.descriptors.specs.Labels.{labelMax, listOf, labelShape, labelOk, labelNumber, labelAnswer, present}
 use Rattle.descriptors.specs.declared.cursor.Cursor.{Cursor}
-use Rattle.descriptors.specs.Laws.{ParsesExactly, SplitsWhole, Accepted, AcceptsExactly, ShowsInOrder, ThenNothing, RefusedStays, RefusedShowsNothing, AcceptedLabel, AcceptsLabel, LabelClaim}
+use Rattle.descriptors.specs.Laws.{ParsesExactly, SplitsWhole, Accepted, AcceptsExactly, ShowsInOrder, ThenNothing, RefusedStays, RefusedShowsNothing, AcceptedLabel, AcceptsLabel, LabelClaim, ListTestsRise, LeftTestsRise, LabelTestsRise}
 use Rattle.descriptors.proofs.Split.{split-joined, split-whole, split-flatten, split-left, parse-split, split-parse}
 use Rattle.descriptors.proofs.Rising.{rises-each, each-rises}
 use Rattle.descriptors.proofs.Steps.{Stands, in-order, then-still}
-use Rattle.descriptors.proofs.Answers.{list-accepted, label-accepted, label-list, label-count}
+use Rattle.descriptors.proofs.Answers.{list-accepted, ok-counted, label-accepted, label-list, label-count}
 
 -- ---- the parse
 
@@ -52,13 +52,6 @@ module _ (label strict : Bool) (s : List ℕ) where
   parts-ok : (ds : List (List ℕ)) → parse s ≡ some ds → risesFrom 0 ds ≡ true → all (admits label strict) ds ≡ true → listOk label strict s ≡ true
   unfolding splitOk
   parts-ok ds p r a = rw (parse-split s ds p, r, a)
-
-  ok-counted : (n : ℕ) → listAnswer label strict s ≡ (0, n ∷ []) → (listOk label strict s ≡ true) × (n ≡ countOf label s)
-  ok-counted n e = go (listOk label strict s) e
-    where
-      go : (ok : Bool) → _≡_ {A = Answer} (lowest ((2, not ok) ∷ []), when ok (countOf label s ∷ []) []) (0, n ∷ []) → (ok ≡ true) × (n ≡ countOf label s)
-      go true h = (refl, sym (ap (λ (a : Answer). getD (a .1) 0 0) h))
-      go false h = absurd (let z : _≡_ {A = ℕ} 2 0 = ap (λ (a : Answer). a .0) h in omega arith)
 
 pub accepts-exactly : AcceptsExactly
 accepts-exactly label strict s n = (to, from)
@@ -136,12 +129,12 @@ two-zeros (x ∷ y ∷ s) h z =
     cons-equal (eqb-true _ _ (and-left (eqb x 0) (eqb y 0 && true) z)) (cons-equal (eqb-true _ _ (and-left (eqb y 0) true (and-right (eqb x 0) (eqb y 0 && true) z))) refl)
 
 -- what number 0 says of a label's tests, and what gives it
-label-parts : (s : List ℕ) → labelNumber s ≡ 0 → (every (labelTests s) ≡ true) × (listOk true false (listOf s) ≡ true) × (length s ≤ labelMax)
+label-parts : (s : List ℕ) → labelNumber s ≡ 0 → (every (labelShape s) ≡ true) × (listOk true false (listOf s) ≡ true) × (length s ≤ labelMax)
 unfolding labelOk
 label-parts s e =
     let (ok, short) = none (labelOk s) (ltb labelMax (length s)) e in (
-      and-left (every (labelTests s)) (listOk true false (listOf s)) ok,
-      and-right (every (labelTests s)) (listOk true false (listOf s)) ok,
+      and-left (every (labelShape s)) (listOk true false (listOf s)) ok,
+      and-right (every (labelShape s)) (listOk true false (listOf s)) ok,
       ltb-false labelMax (length s) short,
     )
   where
@@ -153,7 +146,7 @@ label-parts s e =
 two-there : (s : List ℕ) → take 2 s ≡ 0 ∷ 0 ∷ [] → leb 2 (length s) ≡ true
 two-there s e = le-leb 2 (length s) (omega (arith, simp length-take at (ap length e)))
 
-parts-label : (s : List ℕ) (n : ℕ) → AcceptedLabel s n → every (labelTests s) ≡ true
+parts-label : (s : List ℕ) (n : ℕ) → AcceptedLabel s n → every (labelShape s) ≡ true
 unfolding all
 parts-label s n h = rw (two-there s (h .zeroes), h .zeroes, h .has-00, h .has-01, h .has-03, h .has-04)
 
@@ -165,12 +158,12 @@ accepts-label s n = (to, from)
         let (none, count) = label-count s n e in
         let (shape, ok, short) = label-parts s none in
         record {
-          zeroes = two-zeros s (every-at (labelTests s) 0 shape) (every-at (labelTests s) 1 shape);
+          zeroes = two-zeros s (every-at (labelShape s) 0 shape) (every-at (labelShape s) 1 shape);
           list = accepts-exactly true false (listOf s) n .0 (list-accepted true false (listOf s) n ok count);
-          has-00 = every-at (labelTests s) 2 shape;
-          has-01 = every-at (labelTests s) 3 shape;
-          has-03 = every-at (labelTests s) 4 shape;
-          has-04 = every-at (labelTests s) 5 shape;
+          has-00 = every-at (labelShape s) 2 shape;
+          has-01 = every-at (labelShape s) 3 shape;
+          has-03 = every-at (labelShape s) 4 shape;
+          has-04 = every-at (labelShape s) 5 shape;
           short = short;
         }
 
@@ -182,3 +175,14 @@ accepts-label s n = (to, from)
 pub label-claim : LabelClaim
 unfolding labelOk present splitOk risesFrom unreserved split sizeOf sizeSaid all
 label-claim = (refl, refl, refl)
+
+-- ---- "The lowest that applies is given, and no other."
+
+pub list-tests-rise : ListTestsRise
+list-tests-rise label strict s = refl
+
+pub left-tests-rise : LeftTestsRise
+left-tests-rise left = refl
+
+pub label-tests-rise : LabelTestsRise
+label-tests-rise s = refl

@@ -1,6 +1,6 @@
 -- The laws of specs/ReaderLaws.antt: what is proved of the cursor, over the reader's own calls.
 -- Assumes nothing.
-use mathlib.Core.Path.{_≡_, refl, sym, ap, ap₂, _∙_}
+use mathlib.Core.Path.{_≡_, refl, sym, ap, _∙_}
 use mathlib.Core.Bool.{Bool, true}
 use mathlib.Core.List.{List, []}
 use Prim.Native.Nat.{ℕ, zero, suc, _-_}
@@ -8,11 +8,12 @@ use native.Mathlib.Omega.{arith}
 use lib.ListN.{length}
 use denote.Ref.{RefT, now}
 use Rattle.octets.specs.Tests.{partOf}
-use Rattle.octets.proofs.Lent.{one-answer}
+use Rattle.octets.specs.Places.{Placed, placed, partIn}
+use Rattle.octets.proofs.Unique.{unique}
 use Rattle.descriptors.specs.Parse.{Split}
 use Rattle.descriptors.specs.Tested.{listOk, unreserved, countOf}
 use Rattle.descriptors.specs.Steps.{opened, advanceOf, partShown, after}
-use Rattle.descriptors.specs.Readers.{standing, shownSays, shownOf, nextOf}
+use Rattle.descriptors.specs.Readers.{standing, openedOf, shownSays, shownOf, nextOf}
 use Rattle.descriptors.specs.ReaderLaws.{Run, ReaderCounts, ReaderShows, ReaderThenNothing, ReaderRefusedStays, OpenUnique, NextUnique, PartAtUnique, ShownFromUnique}
 use Rattle.descriptors.specs.declared.cursor.Cursor.{Cursor}
 use Rattle.descriptors.specs.declared.cursor.Advance.{Advance}
@@ -25,7 +26,7 @@ use Rattle.descriptors.proofs.Laws.{shows-in-order, then-nothing, refus
 
 -- a reader's answer, and the reader after it
 abbrev Next : Type 0
-Next = (ℕ × List ℕ) × Reader
+Next = (ℕ × Placed) × Reader
 
 -- one step more is one step after
 after-last : (i : ℕ) (s : List ℕ) (c : Cursor) → after (suc i) s c ≡ advanceOf s (after i s c) .next
@@ -47,6 +48,9 @@ module _ (l : RefT (List ℕ)) (label strict : Bool) (run : Run l label strict) 
   shown-at : (i : ℕ) → shownSays (run .shown i) ≡ shownOf (on (after i (now l) (opened label strict)))
   shown-at i = sym (ap (λ (n : Next). n .0) (run .steps i)) ∙ ap shownOf (held-at i)
 
+  bytes-at : (i : ℕ) → now (run .shown i .part) ≡ partShown (now l) (advanceOf (now l) (after i (now l) (opened label strict)))
+  bytes-at i = ap (λ (n : ℕ × Placed). n .1 .bytes) (shown-at i)
+
   accepted : run .opened .number ≡ 0 → listOk label strict (now l) ≡ true
   accepted e = number-ok label strict (now l) (sym (ap (λ (o : Opened). o .number) (run .opens)) ∙ e)
 
@@ -60,32 +64,33 @@ module _ (l : RefT (List ℕ)) (label strict : Bool) (run : Run l label strict) 
     pub reader-shows : ReaderShows l label strict run ds
     reader-shows i e p h =
         let (number, part) = shows-in-order label strict (now l) ds i (accepted e) p h in
-        shown-at i ∙ ap₂ (λ (n : ℕ) (d : List ℕ). (n, d)) number part
+        let a = advanceOf (now l) (after i (now l) (opened label strict)) in (
+          shown-at i ∙ ap (λ (n : ℕ). (n, partIn (placed l) (a .from) (a .end - a .from))) number,
+          bytes-at i ∙ part,
+        )
 
     pub reader-then-nothing : ReaderThenNothing l label strict run ds
     reader-then-nothing i e p h =
         let still = then-nothing label strict (now l) ds i (accepted e) p h in (
-          shown-at i ∙ ap (λ (a : Advance). (a .number, partShown (now l) a)) still ∙ nothing (now l) (after i (now l) (opened label strict) .at),
+          ap (λ (n : ℕ × Placed). n .0) (shown-at i) ∙ ap (λ (a : Advance). a .number) still,
+          bytes-at i ∙ ap (partShown (now l)) still ∙ nothing (now l) (after i (now l) (opened label strict) .at),
           held-at (suc i) ∙ ap on (after-last i (now l) (opened label strict) ∙ ap (λ (a : Advance). a .next) still) ∙ sym (held-at i),
         )
       where
-        nothing : (s : List ℕ) (at : ℕ) → _≡_ {A = ℕ × List ℕ} (0, partOf s at (at - at)) (0, [])
-        nothing s at = let none : at - at ≡ 0 = omega arith in ap (λ (n : ℕ). (0, partOf s at n)) none
+        nothing : (s : List ℕ) (at : ℕ) → partOf s at (at - at) ≡ []
+        nothing s at = let none : at - at ≡ 0 = omega arith in ap (partOf s at) none
 
 pub reader-refused-stays : ReaderRefusedStays
-reader-refused-stays d f =
-    ap₂ (λ (l : List ℕ) (c : Cursor). ((shownOf d .0, l), record { list = d .list; place = c }))
-    (refused-quiet (now (d .list)) (d .place) f) (refused-stays (now (d .list)) (d .place) f)
+reader-refused-stays d f = (refused-quiet (now (d .list)) (d .place) f, ap (standing (d .list)) (refused-stays (now (d .list)) (d .place) f))
 
 pub open-unique : OpenUnique
-open-unique l label strict a b p q = p ∙ sym q
+open-unique l label strict = unique (openedOf l label strict)
 
 pub next-unique : NextUnique
-next-unique d e f a b p q =
-    let same = one-answer p q in (ap (λ (n : Next). n .0) same, ap (λ (n : Next). n .1) same)
+next-unique d = unique (nextOf d)
 
 pub part-at-unique : PartAtUnique
-part-at-unique s from end a b p q = p ∙ sym q
+part-at-unique s from end = unique (partIn s from (end - from))
 
 pub shown-from-unique : ShownFromUnique
-shown-from-unique l c a b p q = p ∙ sym q
+shown-from-unique l c = unique (shownOf (standing l c) .1)

@@ -1,15 +1,15 @@
 -- For each input of each call one answer, and one state of what is lent: the laws of that name of specs/Laws.antt.
 -- Assumes nothing.
-use mathlib.Core.Path.{_≡_, refl, sym, ap, _∙_}
+use mathlib.Core.Path.{_≡_, refl}
 use mathlib.Core.Bool.{Bool}
 use mathlib.Core.List.{List, [], _∷_}
 use Prim.Native.Nat.{ℕ}
 use lib.Dec.{eqb}
 use Rattle.octets.specs.Lent.{when}
-use Rattle.octets.proofs.Lent.{one-answer}
-use Rattle.descriptors.specs.Tested.{Answer, testedSays}
-use Rattle.descriptors.specs.Steps.{stepSays}
-use Rattle.descriptors.specs.Labels.{labelSays}
+use Rattle.octets.proofs.Unique.{unique, unique-by}
+use Rattle.descriptors.specs.Tested.{Answer, testedSays, listAnswer, listCheck}
+use Rattle.descriptors.specs.Steps.{stepSays, stepAnswer, begunOf, advanceOf, listStep}
+use Rattle.descriptors.specs.Labels.{labelSays, labelAnswer, labelCheck}
 use Rattle.descriptors.specs.Laws.{TestUnique, StepUnique, BeginUnique, AdvanceUnique, LabelUnique, ListCheckUnique, ListStepUnique, LabelCheckUnique}
 use Rattle.descriptors.specs.declared.cursor.Step.{Step}
 use Rattle.descriptors.specs.declared.cursor.Step.the-variants.{One, Nothing, Broken}
@@ -17,10 +17,6 @@ use Rattle.descriptors.specs.declared.label.Label.{Label}
 use Rattle.descriptors.specs.declared.label.Label.the-variants as L
 use Rattle.descriptors.specs.declared.list.Tested.{Tested}
 use Rattle.descriptors.specs.declared.list.Tested.the-variants.{Counted, Refused}
-
--- what says the same is the same, where a case can be told from what it says
-same-said : {A : Type 0} (says : A → Answer) (tells : Answer → A) → ((a : A) → tells (says a) ≡ a) → {x : Answer} (a b : A) → says a ≡ x → says b ≡ x → a ≡ b
-same-said says tells back a b p q = sym (back a) ∙ ap tells (p ∙ sym q) ∙ back b
 
 abbrev tested : Answer → Tested
 tested a = of (a .1)
@@ -59,25 +55,25 @@ label-back L.Broken = refl
 label-back L.Long = refl
 
 pub test-unique : (l t : Bool) (s : List ℕ) → TestUnique l t s
-test-unique l t s a b p q = same-said testedSays tested tested-back a b p q
+test-unique l t s = unique-by testedSays tested tested-back (listAnswer l t s)
 
 pub step-unique : (l t : Bool) (s : List ℕ) (at : ℕ) → StepUnique l t s at
-step-unique l t s at a b p q = same-said stepSays step step-back a b p q
+step-unique l t s at = unique-by stepSays step step-back (stepAnswer l t s at)
 
 pub label-unique : LabelUnique
-label-unique s a b p q = same-said labelSays label label-back a b p q
+label-unique s = unique-by labelSays label label-back (labelAnswer s)
 
 pub begin-unique : (l t : Bool) (s : List ℕ) → BeginUnique l t s
-begin-unique l t s a b p q = p ∙ sym q
+begin-unique l t s = unique (begunOf s l t)
 
 pub advance-unique : AdvanceUnique
-advance-unique s c a b p q = p ∙ sym q
+advance-unique s c = unique (advanceOf s c)
 
 pub list-check-unique : (l t : Bool) (s : List ℕ) (before : ℕ) → ListCheckUnique l t s before
-list-check-unique l t s before a b p q = one-answer p q
+list-check-unique l t s before = unique (listCheck l t s before)
 
 pub list-step-unique : (l t : Bool) (s : List ℕ) (at : ℕ) (before : List ℕ) → ListStepUnique l t s at before
-list-step-unique l t s at before a b p q = one-answer p q
+list-step-unique l t s at before = unique (listStep l t s at before)
 
 pub label-check-unique : LabelCheckUnique
-label-check-unique s before a b p q = one-answer p q
+label-check-unique s before = unique (labelCheck s before)

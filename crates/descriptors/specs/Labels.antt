@@ -5,7 +5,7 @@ use mathlib.Core.Bool.{Bool, true, false, _&&_, _||_, not}
 use mathlib.Core.List.{List, [], _∷_}
 use lib.ListN.{length, take, drop}
 use lib.Dec.{eqb, leb, ltb}
-use Rattle.octets.specs.Lent.{when, lowest}
+use Rattle.octets.specs.Lent.{Tests, lowest, kept}
 use Rattle.octets.specs.Tests.{every, zeros}
 use Rattle.descriptors.specs.Descriptor.{typeOf}
 use Rattle.descriptors.specs.Parse.{split}
@@ -32,8 +32,8 @@ present t (d ∷ ds) = eqb (typeOf d) t || present t ds
 abbrev pub holds : ℕ → List ℕ → Bool
 holds t s = present t (split s .0)
 
-abbrev pub labelTests : List ℕ → List Bool
-labelTests s =
+abbrev pub labelShape : List ℕ → List Bool
+labelShape s =
     leb zeroSize (length s)
     ∷ zeros (take zeroSize s)
     ∷ holds 0x00 (listOf s)
@@ -44,10 +44,13 @@ labelTests s =
 
 -- its list is tested as a label's, and not strictly
 unfoldable pub labelOk : List ℕ → Bool
-labelOk s = every (labelTests s) && listOk true false (listOf s)
+labelOk s = every (labelShape s) && listOk true false (listOf s)
+
+abbrev pub labelTests : List ℕ → Tests
+labelTests s = (2, not (labelOk s)) ∷ (4, ltb labelMax (length s)) ∷ []
 
 abbrev pub labelNumber : List ℕ → ℕ
-labelNumber s = lowest ((2, not (labelOk s)) ∷ (4, ltb labelMax (length s)) ∷ [])
+labelNumber s = lowest (labelTests s)
 
 abbrev pub labelSays : Label → Answer
 labelSays (Counted n) = (0, n ∷ [])
@@ -55,8 +58,8 @@ labelSays Broken = (2, [])
 labelSays Long = (4, [])
 
 abbrev pub labelAnswer : List ℕ → Answer
-labelAnswer s = (labelNumber s, when (eqb (labelNumber s) 0) (countOf true (listOf s) ∷ []) [])
+labelAnswer s = (labelNumber s, kept (labelNumber s) (countOf true (listOf s) ∷ []) [])
 
 -- the number, and a lent count after it, which 0 alone changes
 abbrev pub labelCheck : List ℕ → ℕ → ℕ × ℕ
-labelCheck s before = (labelNumber s, when (eqb (labelNumber s) 0) (countOf true (listOf s)) before)
+labelCheck s before = (labelNumber s, kept (labelNumber s) (countOf true (listOf s)) before)

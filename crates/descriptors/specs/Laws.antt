@@ -7,18 +7,15 @@ use mathlib.Core.List.{List, [], _∷_, _++_, flatten}
 use mathlib.Core.Option.{some}
 use Prim.Native.Nat.{ℕ, _-_, _≤_, _<_}
 use lib.ListN.{length, getD, take}
+use Rattle.octets.specs.Lowest.{rises}
 use Rattle.octets.specs.Tests.{all, partOf}
+use Rattle.octets.specs.Unique.{Unique, UniqueBy}
 use Rattle.descriptors.specs.Descriptor.{typeOf, isReserved, isDescriptor, sizeOf}
 use Rattle.descriptors.specs.Parse.{split, parse}
-use Rattle.descriptors.specs.Tested.{admits, listOk, unreserved, testedSays, listAnswer, listCheck}
-use Rattle.descriptors.specs.Steps.{stepSays, stepAnswer, opened, begunOf, advanceOf, partShown, after, listStep}
-use Rattle.descriptors.specs.Labels.{labelMax, listOf, holds, labelSays, labelAnswer, labelCheck}
+use Rattle.descriptors.specs.Tested.{admits, listOk, unreserved, listTests, testedSays, listAnswer, listCheck}
+use Rattle.descriptors.specs.Steps.{leftTests, stepSays, stepAnswer, opened, begunOf, advanceOf, partShown, after, listStep}
+use Rattle.descriptors.specs.Labels.{labelMax, listOf, holds, labelTests, labelSays, labelAnswer, labelCheck}
 use Rattle.descriptors.specs.declared.cursor.Cursor.{Cursor}
-use Rattle.descriptors.specs.declared.cursor.Step.{Step}
-use Rattle.descriptors.specs.declared.cursor.Begun.{Begun}
-use Rattle.descriptors.specs.declared.cursor.Advance.{Advance}
-use Rattle.descriptors.specs.declared.label.Label.{Label}
-use Rattle.descriptors.specs.declared.list.Tested.{Tested}
 
 -- ---- the parse
 
@@ -104,25 +101,36 @@ LabelClaim = (labelAnswer (0 ∷ 0 ∷ []) ≡ (2, [])) × (length fourEmpty ≡
 
 module _ (label strict : Bool) (s : List ℕ) where
   abbrev pub TestUnique : Type 0
-  TestUnique = (a b : Tested) → testedSays a ≡ listAnswer label strict s → testedSays b ≡ listAnswer label strict s → a ≡ b
+  TestUnique = UniqueBy testedSays (listAnswer label strict s)
 
   abbrev pub StepUnique : ℕ → Type 0
-  StepUnique at = (a b : Step) → stepSays a ≡ stepAnswer label strict s at → stepSays b ≡ stepAnswer label strict s at → a ≡ b
+  StepUnique at = UniqueBy stepSays (stepAnswer label strict s at)
 
   abbrev pub BeginUnique : Type 0
-  BeginUnique = (a b : Begun) → a ≡ begunOf s label strict → b ≡ begunOf s label strict → a ≡ b
+  BeginUnique = Unique (begunOf s label strict)
 
   abbrev pub ListCheckUnique : ℕ → Type 0
-  ListCheckUnique before = (a b : ℕ × ℕ) → listCheck label strict s before ≡ a → listCheck label strict s before ≡ b → a ≡ b
+  ListCheckUnique before = Unique (listCheck label strict s before)
 
   abbrev pub ListStepUnique : ℕ → List ℕ → Type 0
-  ListStepUnique at before = (a b : ℕ × List ℕ) → listStep label strict s at before ≡ a → listStep label strict s at before ≡ b → a ≡ b
+  ListStepUnique at before = Unique (listStep label strict s at before)
 
 abbrev pub AdvanceUnique : Type 0
-AdvanceUnique = (s : List ℕ) (c : Cursor) (a b : Advance) → a ≡ advanceOf s c → b ≡ advanceOf s c → a ≡ b
+AdvanceUnique = (s : List ℕ) (c : Cursor) → Unique (advanceOf s c)
 
 abbrev pub LabelUnique : Type 0
-LabelUnique = (s : List ℕ) (a b : Label) → labelSays a ≡ labelAnswer s → labelSays b ≡ labelAnswer s → a ≡ b
+LabelUnique = (s : List ℕ) → UniqueBy labelSays (labelAnswer s)
 
 abbrev pub LabelCheckUnique : Type 0
-LabelCheckUnique = (s : List ℕ) (before : ℕ) (a b : ℕ × ℕ) → labelCheck s before ≡ a → labelCheck s before ≡ b → a ≡ b
+LabelCheckUnique = (s : List ℕ) (before : ℕ) → Unique (labelCheck s before)
+
+-- ---- "The lowest that applies is given, and no other."
+
+abbrev pub ListTestsRise : Type 0
+ListTestsRise = (label strict : Bool) (s : List ℕ) → rises (listTests label strict s) ≡ true
+
+abbrev pub LeftTestsRise : Type 0
+LeftTestsRise = (left : List ℕ) → rises (leftTests left) ≡ true
+
+abbrev pub LabelTestsRise : Type 0
+LabelTestsRise = (s : List ℕ) → rises (labelTests s) ≡ true

@@ -7,9 +7,11 @@ use mathlib.Core.Option.{some}
 use Prim.Native.Nat.{ℕ, suc, _-_, _≤_, _<_}
 use lib.ListN.{length, getD}
 use denote.Ref.{RefT, now}
-use Rattle.octets.specs.Tests.{partOf}
+use Rattle.octets.specs.Places.{Placed, placed, partIn}
+use Rattle.octets.specs.Unique.{Unique}
 use Rattle.descriptors.specs.Parse.{parse}
 use Rattle.descriptors.specs.Tested.{unreserved}
+use Rattle.descriptors.specs.Steps.{opened, advanceOf, after}
 use Rattle.descriptors.specs.Readers.{standing, openedOf, shownSays, shownOf, nextOf}
 use Rattle.descriptors.specs.declared.cursor.Cursor.{Cursor}
 use Rattle.descriptors.specs.declared.reader.Reader.{Reader}
@@ -30,33 +32,33 @@ module _ (l : RefT (List ℕ)) (label strict : Bool) (run : Run l label strict) 
   abbrev pub ReaderCounts : Type 0
   ReaderCounts = run .opened .number ≡ 0 → parse (now l) ≡ some ds → run .opened .count ≡ length (unreserved label ds)
 
-  -- step number i shows unreserved descriptor number i
+  -- step number i shows unreserved descriptor number i, as the part of the list that the cursor's step gives the places of
   abbrev pub ReaderShows : Type 0
   ReaderShows =
       (i : ℕ) → run .opened .number ≡ 0 → parse (now l) ≡ some ds → i < length (unreserved label ds)
-      → shownSays (run .shown i) ≡ (0, getD (unreserved label ds) i [])
+      → let a = advanceOf (now l) (after i (now l) (opened label strict)) in
+      (shownSays (run .shown i) ≡ (0, partIn (placed l) (a .from) (a .end - a .from))) × (now (run .shown i .part) ≡ getD (unreserved label ds) i [])
 
   -- and every later one shows nothing, gives 0 and does not move
   abbrev pub ReaderThenNothing : Type 0
   ReaderThenNothing =
       (i : ℕ) → run .opened .number ≡ 0 → parse (now l) ≡ some ds → length (unreserved label ds) ≤ i
-      → (shownSays (run .shown i) ≡ (0, [])) × (run .held (suc i) ≡ run .held i)
+      → (run .shown i .number ≡ 0) × (now (run .shown i .part) ≡ []) × (run .held (suc i) ≡ run .held i)
 
 -- a step that is refused shows nothing and does not move
 abbrev pub ReaderRefusedStays : Type 0
-ReaderRefusedStays = (d : Reader) → (shownOf d .0 ≡ 0 → ⊥) → nextOf d ≡ ((shownOf d .0, []), d)
+ReaderRefusedStays = (d : Reader) → (shownOf d .0 ≡ 0 → ⊥) → (shownOf d .1 .bytes ≡ []) × (nextOf d .1 ≡ d)
 
--- ---- for each input one answer, and one reader after it
+-- ---- for each input one answer, and one reader after it; of a part handed back, its bytes and where they lie
 
 abbrev pub OpenUnique : Type 0
-OpenUnique = (l : RefT (List ℕ)) (label strict : Bool) (a b : Opened) → a ≡ openedOf l label strict → b ≡ openedOf l label strict → a ≡ b
+OpenUnique = (l : RefT (List ℕ)) (label strict : Bool) → Unique (openedOf l label strict)
 
 abbrev pub NextUnique : Type 0
-NextUnique =
-    (d e f : Reader) (a b : Shown) → nextOf d ≡ (shownSays a, e) → nextOf d ≡ (shownSays b, f) → (shownSays a ≡ shownSays b) × (e ≡ f)
+NextUnique = (d : Reader) → Unique (nextOf d)
 
 abbrev pub PartAtUnique : Type 0
-PartAtUnique = (s : List ℕ) (from end : ℕ) (a b : List ℕ) → a ≡ partOf s from (end - from) → b ≡ partOf s from (end - from) → a ≡ b
+PartAtUnique = (s : Placed) (from end : ℕ) → Unique (partIn s from (end - from))
 
 abbrev pub ShownFromUnique : Type 0
-ShownFromUnique = (l : RefT (List ℕ)) (c : Cursor) (a b : List ℕ) → a ≡ shownOf (standing l c) .1 → b ≡ shownOf (standing l c) .1 → a ≡ b
+ShownFromUnique = (l : RefT (List ℕ)) (c : Cursor) → Unique (shownOf (standing l c) .1)

@@ -1,10 +1,11 @@
 -- The reader (document 01, "Descriptors and labels"): "A small reader stands on the caller's list and steps along it".
 -- Assumes nothing.
-use Prim.Native.Nat.{ℕ}
+use Prim.Native.Nat.{ℕ, _-_}
 use mathlib.Core.Bool.{Bool}
 use mathlib.Core.List.{List}
 use denote.Ref.{RefT, now}
-use Rattle.descriptors.specs.Steps.{begunOf, advanceOf, partShown}
+use Rattle.octets.specs.Places.{Placed, placed, partIn}
+use Rattle.descriptors.specs.Steps.{begunOf, advanceOf}
 use Rattle.descriptors.specs.declared.cursor.Cursor.{Cursor}
 use Rattle.descriptors.specs.declared.reader.Reader.{Reader}
 use Rattle.descriptors.specs.declared.reader.Opened.{Opened}
@@ -23,13 +24,14 @@ openedOf l label strict =
 abbrev pub moved : Reader → Cursor → Reader
 moved d c = standing (d .list) c
 
--- a step's number, and the bytes of the part that is shown
-abbrev pub shownSays : Shown → ℕ × List ℕ
-shownSays p = (p .number, now (p .part))
+-- a step's number, and the part that is shown: its bytes, and where they lie
+abbrev pub shownSays : Shown → ℕ × Placed
+shownSays p = (p .number, placed (p .part))
 
-abbrev pub shownOf : Reader → ℕ × List ℕ
-shownOf d = let a = advanceOf (now (d .list)) (d .place) in (a .number, partShown (now (d .list)) a)
+-- "as the part of the list that it is": of the very list that was lent, from one place to the other
+abbrev pub shownOf : Reader → ℕ × Placed
+shownOf d = let a = advanceOf (now (d .list)) (d .place) in (a .number, partIn (placed (d .list)) (a .from) (a .end - a .from))
 
 -- what a step answers, and the reader after it
-abbrev pub nextOf : Reader → (ℕ × List ℕ) × Reader
+abbrev pub nextOf : Reader → (ℕ × Placed) × Reader
 nextOf d = (shownOf d, moved d (advanceOf (now (d .list)) (d .place) .next))

@@ -5,11 +5,11 @@ use mathlib.Core.Bool.{Bool, not}
 use mathlib.Core.List.{List, [], _∷_}
 use lib.ListN.{length, getD, drop}
 use lib.Dec.{eqb, ltb}
-use Rattle.octets.specs.Lent.{when, lowest}
+use Rattle.octets.specs.Lent.{when, Tests, lowest, kept}
 use Rattle.octets.specs.Tests.{partOf}
 use Rattle.descriptors.specs.Descriptor.{typeOf, isReserved, isRefused}
 use Rattle.descriptors.specs.Parse.{Split, split}
-use Rattle.descriptors.specs.Tested.{Answer, listNumber, listOk, countOf}
+use Rattle.descriptors.specs.Tested.{Answer, listNumber, countOf}
 use Rattle.descriptors.specs.declared.cursor.Cursor.{Cursor}
 use Rattle.descriptors.specs.declared.cursor.Step.{Step}
 use Rattle.descriptors.specs.declared.cursor.Step.the-variants.{One, Nothing, Broken}
@@ -17,8 +17,11 @@ use Rattle.descriptors.specs.declared.cursor.Begun.{Begun}
 use Rattle.descriptors.specs.declared.cursor.Advance.{Advance}
 
 -- "A step with none left shows nothing and gives 0; one whose place .. holds no whole descriptor gives 2": the bytes after the last whole one
+abbrev pub leftTests : List ℕ → Tests
+leftTests left = (2, not (eqb (length left) 0)) ∷ []
+
 abbrev pub leftNumber : List ℕ → ℕ
-leftNumber left = lowest ((2, not (eqb (length left) 0)) ∷ [])
+leftNumber left = lowest (leftTests left)
 
 -- the first descriptor that is not reserved, as the places where it begins and ends, from the place `at` of the first of ds on
 unfoldable pub firstShown : Bool → Bool → ℕ → List (List ℕ) → List ℕ → Answer
@@ -48,7 +51,7 @@ opened label strict = record { at = 0; label = label; strict = strict }
 
 abbrev pub begunOf : List ℕ → Bool → Bool → Begun
 begunOf s label strict =
-    record { number = listNumber label strict s; count = when (listOk label strict s) (countOf label s) 0; place = opened label strict }
+    record { number = listNumber label strict s; count = kept (listNumber label strict s) (countOf label s) 0; place = opened label strict }
 
 -- where the descriptor shown begins and ends: both at the place where none is shown, and then the cursor does not move
 abbrev pub advancedBy : Cursor → Answer → Advance
@@ -70,7 +73,7 @@ after (suc n) s c = after n s (advanceOf s c .next)
 
 -- the number, and the two lent places after it, which 0 alone changes
 abbrev pub placesAfter : Advance → List ℕ → ℕ × List ℕ
-placesAfter a before = (a .number, when (eqb (a .number) 0) (a .from ∷ a .end ∷ []) before)
+placesAfter a before = (a .number, kept (a .number) (a .from ∷ a .end ∷ []) before)
 
 abbrev pub listStep : Bool → Bool → List ℕ → ℕ → List ℕ → ℕ × List ℕ
 listStep label strict s at before = placesAfter (advanceOf s (record { at = at; label = label; strict = strict })) before

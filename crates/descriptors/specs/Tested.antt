@@ -5,7 +5,7 @@ use mathlib.Core.Bool.{Bool, true, _&&_, not}
 use mathlib.Core.List.{List, [], _∷_}
 use lib.ListN.{length}
 use lib.Dec.{eqb, leb}
-use Rattle.octets.specs.Lent.{when, lowest}
+use Rattle.octets.specs.Lent.{when, Tests, lowest, kept}
 use Rattle.octets.specs.Tests.{every, all}
 use Rattle.descriptors.specs.Descriptor.{typeOf, isReserved, isRefused}
 use Rattle.descriptors.specs.Parse.{Split, split}
@@ -45,16 +45,19 @@ countOf label s = length (unreserved label (split s .0))
 
 -- ---- the numbers
 
+abbrev pub listTests : Bool → Bool → List ℕ → Tests
+listTests label strict s = (2, not (listOk label strict s)) ∷ []
+
 abbrev pub listNumber : Bool → Bool → List ℕ → ℕ
-listNumber label strict s = lowest ((2, not (listOk label strict s)) ∷ [])
+listNumber label strict s = lowest (listTests label strict s)
 
 abbrev pub testedSays : Tested → Answer
 testedSays (Counted n) = (0, n ∷ [])
 testedSays Refused = (2, [])
 
 abbrev pub listAnswer : Bool → Bool → List ℕ → Answer
-listAnswer label strict s = (listNumber label strict s, when (listOk label strict s) (countOf label s ∷ []) [])
+listAnswer label strict s = (listNumber label strict s, kept (listNumber label strict s) (countOf label s ∷ []) [])
 
 -- the number, and a lent count after it, which 0 alone changes
 abbrev pub listCheck : Bool → Bool → List ℕ → ℕ → ℕ × ℕ
-listCheck label strict s before = (listNumber label strict s, when (listOk label strict s) (countOf label s) before)
+listCheck label strict s before = (listNumber label strict s, kept (listNumber label strict s) (countOf label s) before)

@@ -4,11 +4,11 @@ use crate::descriptor::size_at;
 use crate::list::Tested;
 use crate::list::test;
 use octets::big_endian::read8;
-use octets::strings::part;
+use octets::strings::cut;
 ghost use mathlib.Core.Path.{_≡_};
 ghost use mathlib.Core.List.{[], _∷_};
 ghost use Prim.Native.Nat.{_-_};
-ghost use Rattle.octets.specs.Tests.{partOf};
+ghost use Rattle.octets.specs.Places.{placed, partIn};
 ghost use Rattle.descriptors.specs.Steps.{stepSays, stepAnswer, begunOf, advancedBy, advanceOf};
 
 pub struct Cursor {
@@ -129,12 +129,12 @@ pub fn advance_at(list: &[u8], c: Cursor) -> Advance
     }
 }
 
-// The bytes of a list from one place to another.
+// The bytes of a list from one place to another, as the part of the list that they are.
 pub fn part_at<'a>(list: &'a [u8], from: usize, end: usize) -> &'a [u8]
-    ensures { λ r. ⌜ now r ≡ partOf (now (list .entry)) from (end - from) ⌝ }
+    ensures { λ r. ⌜ placed r ≡ partIn (placed (list .entry)) from (end - from) ⌝ }
 {
     if end < from {
-        return part(list, from, 0);
+        return cut(list, from, 0);
     }
-    part(list, from, end - from)
+    cut(list, from, end - from)
 }

@@ -8,7 +8,7 @@ use octets::strings::all_zero;
 use octets::strings::part;
 ghost use mathlib.Core.Path.{_≡_};
 ghost use Rattle.octets.specs.Tests.{every};
-ghost use Rattle.descriptors.specs.Labels.{holds, labelTests, labelSays, labelAnswer};
+ghost use Rattle.descriptors.specs.Labels.{holds, labelShape, labelSays, labelAnswer};
 
 const LABEL_MAX: usize = 4096;
 
@@ -42,7 +42,7 @@ fn has(list: &[u8], kind: usize) -> bool
 
 // Whether a label begins with two zero bytes, and its list has the four types.
 fn shaped(label: &[u8]) -> bool
-    ensures { λ r. ⌜ r ≡ every (labelTests (now (label .entry))) ⌝ }
+    ensures { λ r. ⌜ r ≡ every (labelShape (now (label .entry))) ⌝ }
 {
     let list = rest(label, ZERO_SIZE);
     (ZERO_SIZE <= label.len())

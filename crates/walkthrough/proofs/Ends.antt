@@ -1,11 +1,11 @@
 -- As many steps as opening counted come to the end of the list, where a step shows nothing and gives 0.
 -- Assumes nothing.
 use mathlib.Core.Path.{_≡_, refl, sym, ap, ap₂, _∙_}
-use mathlib.Core.Bool.{Bool, true, false}
+use mathlib.Core.Bool.{true, false}
 use mathlib.Core.List.{List}
 use Prim.Native.Nat.{ℕ}
 use native.Mathlib.Omega.{arith}
-use Rattle.octets.specs.Lent.{when}
+use Rattle.octets.specs.Lent.{kept}
 use Rattle.descriptors.specs.Tested.{listNumber, listOk, countOf}
 use Rattle.descriptors.specs.Steps.{opened, begunOf, advanceOf, after}
 use Rattle.descriptors.specs.declared.cursor.Cursor.{Cursor}
@@ -24,6 +24,6 @@ pub walk-ends : (s : List ℕ) (b : Begun) (end : Cursor) (a : Advance) → b �
 walk-ends s b end a begun zero e last =
     let number = sym (ap (λ (x : Begun). x .number) begun) ∙ zero in
     let ok = number-ok false false s number in
-    let count = ap (λ (x : Begun). x .count) begun ∙ ap (λ (t : Bool). when t (countOf false s) 0) ok in
+    let count = ap (λ (x : Begun). x .count) begun ∙ ap (λ (n : ℕ). kept n (countOf false s) 0) number in
     let place = ap (λ (x : Begun). x .place) begun in
     ap (λ (x : Advance). x .number) (last ∙ ap (advanceOf s) (e ∙ ap₂ (λ (k : ℕ) (c : Cursor). after k s c) count place)) ∙ none-left s ok ∙ sym number

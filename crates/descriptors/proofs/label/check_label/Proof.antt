@@ -6,7 +6,7 @@ use borrow.Author.Needs.{needs}
 use borrow.Author.Tests.{not-true, not-false}
 use Rattle.octets.specs.Tests.{every}
 use Rattle.descriptors.specs.Tested.{listAnswer}
-use Rattle.descriptors.specs.Labels.{listOf, labelTests}
+use Rattle.descriptors.specs.Labels.{listOf, labelShape}
 use Rattle.descriptors.proofs.Answers.{counted-tells, refused-tells, label-refused, label-long, label-accepted, label-shapeless, label-list}
 use Rattle.descriptors.proofs.label.check_label.Statement.{statement}
 use Rattle.descriptors.proofs.label.check_label.Tie as tie
@@ -15,7 +15,7 @@ returns : tie.Need-returns
 returns c = sym (label-refused _ (label-shapeless _ (sym (c .before .shaped .ensures) ∙ not-true _ (c .if1 .taken))))
 
 -- what is known past each test
-shape : (c : tie.Else1) → every (labelTests (c .before .before .before .args .label .now)) ≡ true
+shape : (c : tie.Else1) → every (labelShape (c .before .before .before .args .label .now)) ≡ true
 shape c = sym (c .before .shaped .ensures) ∙ not-false _ (c .if1 .left)
 
 returns-2 : tie.Need-returns-2

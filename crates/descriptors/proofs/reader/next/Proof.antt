@@ -42,8 +42,8 @@ use denote.Triple.Spec.{Meets, tripleOf}
 use denote.Triple.Table.{entered, cited}
 use denote.Triple.Walked.{says, Stays, stay-ref, walkOf, goes-ref, Walks, ends-at, walked, walk-meets}
 use denote.Triple.Clauses.{ensured, lasts}
-use Rattle.octets.specs.Tests.{partOf}
-use Rattle.descriptors.specs.Steps.{advanceOf, partShown}
+use Rattle.octets.specs.Places.{Placed, placed, partIn}
+use Rattle.descriptors.specs.Steps.{advanceOf}
 use Rattle.descriptors.specs.Readers.{moved}
 use Rattle.descriptors.specs.declared.cursor.Advance.{Advance}
 use Rattle.descriptors.specs.declared.reader.Reader.{Reader}
@@ -110,8 +110,8 @@ module _ {M : Type 1} (𝓤 : URA M) (H : Heap 𝓤) (A : Atoms 𝓤) (W : Given
   found = advanceOf (now (h .list)) (h .place)
 
   -- what is answered of a result of `advance_at`, and the reader after it
-  abbrev answered : Advance → (ℕ × List ℕ) × Reader
-  answered a = ((a .number, partShown (now (h .list)) a), moved h (a .next))
+  abbrev answered : Advance → (ℕ × Placed) × Reader
+  answered a = ((a .number, partIn (placed (h .list)) (a .from) (a .end - a .from)), moved h (a .next))
 
   abbrev Post : Val → SProp 𝓤
   Post = walkOf 𝓤 H A next.ended stayed (next.clauses 𝓤 H A at-mem run) .post (((κ, (κ′, tt)), (q, (q′, tt)), bounds, x, at), tt)
@@ -137,8 +137,8 @@ module _ {M : Type 1} (𝓤 : URA M) (H : Heap 𝓤) (A : Atoms 𝓤) (W : Given
         nothing ! $ owned ! usize (Is usize) (uint-makes 𝓤 H A W w64) n _ (refl, n-fits) $ fjoin ! $ owned ! usize (Is usize) (uint-makes 𝓤 H A W w64) m _ (refl, m-fits) $ fjoin ! $
         move ! (2 ∷ 0 ∷ []) $ fjoin ! $ move ! (1 ∷ 0 ∷ []) $ join ! $ frame ! $ done !
 
-    part-said : (p : RefT (List ℕ)) → ent 𝓤 (ensured 𝓤 H A part.ended (part.clauses 𝓤 H A at-mem run) (κ′, tt) (h .list, (m, (n, tt))) tt p) (fact 𝓤 (now p ≡ partOf (now (h .list)) m (n - m)))
-    part-said p = exE 𝓤 _ (λ ws. snd∗ 𝓤 (sem 𝓤 H A (lasts part.ended (κ′, tt) (h .list, (m, (n, tt))) ws)) (fact 𝓤 (now p ≡ partOf (now (h .list)) m (n - m))))
+    part-said : (p : RefT (List ℕ)) → ent 𝓤 (ensured 𝓤 H A part.ended (part.clauses 𝓤 H A at-mem run) (κ′, tt) (h .list, (m, (n, tt))) tt p) (fact 𝓤 (placed p ≡ partIn (placed (h .list)) m (n - m)))
+    part-said p = exE 𝓤 _ (λ ws. snd∗ 𝓤 (sem 𝓤 H A (lasts part.ended (κ′, tt) (h .list, (m, (n, tt))) ws)) (fact 𝓤 (placed p ≡ partIn (placed (h .list)) m (n - m))))
 
   -- what is known of the machine values of the reader, and of a part that `part_at` returned
   reader-wt : Is R h (mach α h ∷ []) → Holds (hasTy (T′.mir (named 1)) (mach α h)) × WT (mach α h)
@@ -147,12 +147,12 @@ module _ {M : Type 1} (𝓤 : URA M) (H : Heap 𝓤) (A : Atoms 𝓤) (W : Given
   part-wt : (p : RefT (List ℕ)) (u : Val) → Is (ShrSlice (named 0) κ′ u8) p (u ∷ []) → Holds (hasTy (sliceTy (tyRef erased imm (tyInt w8))) (only (slice-vals p))) × WT (only (slice-vals p))
   part-wt p u is = shr-slice-lawful 𝓤 H A W erased κ′ u8 .typed p (slice-vals p) (subst (Is (ShrSlice (named 0) κ′ u8) p) (shr-slice-tells (named 0) κ′ u8 p _ is) is) .0
 
-  exits : (r : Advance) (p : RefT (List ℕ)) → r ≡ found → now p ≡ partOf (now (h .list)) (r .from) (r .end - r .from) → r .number < 2 ^ 8
+  exits : (r : Advance) (p : RefT (List ℕ)) → r ≡ found → placed p ≡ partIn (placed (h .list)) (r .from) (r .end - r .from) → r .number < 2 ^ 8
       → ent 𝓤 (⋆ 𝓤 H A (‵ (fobs γ (R .coded .code (moved h (r .next)))) ∷ ‵ (fbor κ (Body (mem R) b o γ)) ∷ ‵ (flft κ q) ∷ (‵ (flft κ′ q′) ⊛ ‵ ftrue) ∷ ‵ (ShrSlice (named 1) κ′ u8 .own p (slice-vals p)) ∷ [])) (Post (shown (r .number) p))
   exits r p e e₂ fits =
       qed W (‵ (fobs γ (R .coded .code (moved h (r .next)))) ∷ ‵ (fbor κ (Body (mem R) b o γ)) ∷ ‵ (flft κ q) ∷ (‵ (flft κ′ q′) ⊛ ‵ ftrue) ∷ ‵ (ShrSlice (named 1) κ′ u8 .own p (slice-vals p)) ∷ []) ∵
       suffices ! _ (ends-at 𝓤 H A next.ended stayed (next.clauses 𝓤 H A at-mem run) W (((κ, (κ′, tt)), (q, (q′, tt)), bounds, x, at), tt) (shown (r .number) p) (made (r .number) p) (moved h (r .next), tt) (tt, tt)) $
-      says ! (ap answered (sym e) ∙ ap (λ (l : List ℕ). ((r .number, l), moved h (r .next))) (sym e₂)) $
+      says ! (ap answered (sym e) ∙ ap (λ (l : Placed). ((r .number, l), moved h (r .next))) (sym e₂)) $
       move ! (2 ∷ 3 ∷ []) $ join ! $ frame ! $ feqI ! (List Val) (vptr b o ∷ []) (vptr b o ∷ []) refl $ fjoin3 ! $ nothing ! $ move ! (1 ∷ 0 ∷ []) $ fjoin ! $ frame ! $
       -- [what the part owns]: with the number's facts, what the result owns
       nothing ! $ move ! (1 ∷ 0 ∷ []) $ fjoin ! $ owned ! u8 (Is u8) (uint-makes 𝓤 H A W w8) (r .number) _ (refl, fits) $ fjoin ! $ by ! (own-shut 𝓤 H A W (S.the-type α) (S′.the-laws α) (r .number, (p, tt)))
@@ -185,7 +185,7 @@ module _ {M : Type 1} (𝓤 : URA M) (H : Heap 𝓤) (A : Atoms 𝓤) (W : Given
         move ! (3 ∷ 0 ∷ []) $ use2 W (raw (PartAt 𝓤 H A at-mem run .pre (to-part (r .from) (r .end)))) (goes-part (r .from) (r .end) (from-fits r u is) (end-fits r u is)) $
         calls-at ! fm (PartAt 𝓤 H A at-mem run) known-part (to-part (r .from) (r .end)) (and-then ! (load ! (from ! (stop !)) (look ! 14 refl)) (and-then ! (load ! (from ! (fld ! refl (stop !))) (look-in ! 12 (sub ! 1 refl (whole !)))) (and-then ! (load ! (from ! (fld ! refl (stop !))) (look-in ! 12 (sub ! 2 refl (whole !)))) (no-more !)))) (λ u₂.
         use1 W (later (some (λ (p : RefT (List ℕ)). ((‵ (flft κ′ q′) ⊛ ‵ ftrue) ⊛ ‵ (ShrSlice (named 0) κ′ u8 .own p (u₂ ∷ []))) ⊛ raw (ensured 𝓤 H A part.ended (part.clauses 𝓤 H A at-mem run) (κ′, tt) (h .list, (r .from, (r .end, tt))) tt p)))) (id⊢ 𝓤 _) $ await ! tt $ pick ! (λ p.
-        split ! $ move ! (1 ∷ []) $ use1 W (raw (fact 𝓤 (now p ≡ partOf (now (h .list)) (r .from) (r .end - r .from)))) (part-said (r .from) (r .end) p) $ heard ! (now p ≡ partOf (now (h .list)) (r .from) (r .end - r .from)) (λ e₂. split ! $ move ! (1 ∷ []) $
+        split ! $ move ! (1 ∷ []) $ use1 W (raw (fact 𝓤 (placed p ≡ partIn (placed (h .list)) (r .from) (r .end - r .from)))) (part-said (r .from) (r .end) p) $ heard ! (placed p ≡ partIn (placed (h .list)) (r .from) (r .end - r .from)) (λ e₂. split ! $ move ! (1 ∷ []) $
         -- [the part; 'a's token; what the reader owns; the first result; the reader's cell; the open borrow; obs; auth; …; _5; …; _4; …; _3; …; _2; …; _1; …; room for _0; …]
         peeks ! (ShrSlice (named 0) κ′ u8) (Is (ShrSlice (named 0) κ′ u8)) (shows 𝓤 H A (ShrSlice (named 0) κ′ u8)) p (u₂ ∷ []) (λ is₂.
         land ! (from ! (stop !)) (init ! 9 refl (shr-slice-lawful 𝓤 H A W erased κ′ u8 .typed p _ is₂ .0)) $

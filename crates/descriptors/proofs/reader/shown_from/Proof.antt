@@ -47,6 +47,7 @@ use denote.Triple.Table.{entered, cited}
 use denote.Triple.Walked.{says, Stays, stay-none, stay-none-slice, walkOf, goes-none, goes-none-slice, Walks, ends-at, walked, walk-meets}
 use denote.Exit.{yes}
 use denote.Triple.Clauses.{ensured, lasts}
+use Rattle.octets.specs.Places.{Placed}
 use Rattle.descriptors.specs.Readers.{standing, shownSays, nextOf}
 use Rattle.descriptors.specs.declared.cursor.Cursor.{Cursor}
 use Rattle.descriptors.specs.declared.reader.Reader.{Reader}
@@ -163,7 +164,7 @@ module _ {M : Type 1} (𝓤 : URA M) (H : Heap 𝓤) (A : Atoms 𝓤) (W : Given
   exits r w h′ e g =
       qed W (‵ (flft κ ql) ∷ (‵ (flft κ qr) ⊛ ‵ ftrue) ∷ ‵ (S.the-row α .own r (w ∷ [])) ∷ ‵ Own ∷ []) ∵
       suffices ! _ (ends-at 𝓤 H A shown.ended stayed (shown.clauses 𝓤 H A at-mem run) W (((κ, tt), (q, tt), tt, a, vals), tt) (only (slice-vals (r .part))) (r .part) (tt, (tt, tt)) (tt, (tt, tt))) $
-      says ! (sym (ap (λ (n : (ℕ × List ℕ) × Reader). n .0 .1) e)) $
+      says ! (sym (ap (λ (n : (ℕ × Placed) × Reader). n .0 .1) e)) $
       move ! (1 ∷ []) $ split ! $ move ! (2 ∷ 0 ∷ []) $ use2 W (‵ (flft κ q)) (W .lfts .lft-join κ q) $ join ! $ frame ! $
       -- [what the answer owns; what the slice owns]
       nothing ! $ owned ! C.the-row (Is C.the-row) (LL.makes C.the-type C′.the-plain 𝓤 H A) c _ g $ fjoin ! $ move ! (2 ∷ 0 ∷ []) $ fjoin ! $ frame ! $
