@@ -19,7 +19,8 @@ use Rattle.descriptors.specs.Tested.{Answer, admits, risesFrom, splitTes
 use Rattle.descriptors.specs.Steps.{firstShown, splitStep, stepAnswer, advanceOf}
 use Rattle.descriptors.specs.Labels.{labelMax, listOf, labelShape, labelOk, labelNumber, labelAnswer, present}
 use Rattle.descriptors.specs.declared.cursor.Cursor.{Cursor}
-use Rattle.descriptors.specs.Laws.{ParsesExactly, SplitsWhole, Accepted, AcceptsExactly, ShowsInOrder, ThenNothing, RefusedStays, RefusedShowsNothing, AcceptedLabel, AcceptsLabel, LabelClaim, ListTestsRise, LeftTestsRise, LabelTestsRise}
+use Rattle.descriptors.specs.Laws.{ParsesExactly, SplitsWhole, Accepted, AcceptsExactly, ShowsInOrder, ThenNothing, RefusedStays, RefusedShowsNothing, AcceptedLabel, AcceptsLabel, LabelClaim}
+use Rattle.descriptors.specs.Laws.{ListTestsRise, LeftTestsRise, LabelTestsRise}
 use Rattle.descriptors.proofs.Split.{split-joined, split-whole, split-flatten, split-left, parse-split, split-parse}
 use Rattle.descriptors.proofs.Rising.{rises-each, each-rises}
 use Rattle.descriptors.proofs.Steps.{Stands, in-order, then-still}

@@ -46,7 +46,7 @@ AcceptsExactly = (label strict : Bool) (s : List ℕ) (n : ℕ) → (listAnswer 
 
 -- ---- steps
 
--- from the start of an accepted list, step number i shows unreserved descriptor number i, as the part of the list that it is
+-- from the start of an accepted list, step number i shows unreserved descriptor number i
 abbrev pub ShowsInOrder : Type 0
 ShowsInOrder =
     (label strict : Bool) (s : List ℕ) (ds : List (List ℕ)) (i : ℕ) → listOk label strict s ≡ true → parse s ≡ some ds → i < length (unreserved label ds)

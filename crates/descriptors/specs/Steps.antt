@@ -62,7 +62,7 @@ advancedBy c a =
 abbrev pub advanceOf : List ℕ → Cursor → Advance
 advanceOf s c = advancedBy c (stepAnswer (c .label) (c .strict) s (c .at))
 
--- the descriptor shown, as the part of the list that it is; none where both places are the cursor's
+-- the bytes of the descriptor shown; none where both places are the cursor's
 abbrev pub partShown : List ℕ → Advance → List ℕ
 partShown s a = partOf s (a .from) (a .end - a .from)
 

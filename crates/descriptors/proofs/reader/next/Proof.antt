@@ -113,6 +113,10 @@ module _ {M : Type 1} (𝓤 : URA M) (H : Heap 𝓤) (A : Atoms 𝓤) (W : Given
   abbrev answered : Advance → (ℕ × Placed) × Reader
   answered a = ((a .number, partIn (placed (h .list)) (a .from) (a .end - a .from)), moved h (a .next))
 
+  -- p is the part of the list from m to n
+  abbrev Taken : ℕ → ℕ → RefT (List ℕ) → Type 0
+  Taken m n p = placed p ≡ partIn (placed (h .list)) m (n - m)
+
   abbrev Post : Val → SProp 𝓤
   Post = walkOf 𝓤 H A next.ended stayed (next.clauses 𝓤 H A at-mem run) .post (((κ, (κ′, tt)), (q, (q′, tt)), bounds, x, at), tt)
 
@@ -137,8 +141,8 @@ module _ {M : Type 1} (𝓤 : URA M) (H : Heap 𝓤) (A : Atoms 𝓤) (W : Given
         nothing ! $ owned ! usize (Is usize) (uint-makes 𝓤 H A W w64) n _ (refl, n-fits) $ fjoin ! $ owned ! usize (Is usize) (uint-makes 𝓤 H A W w64) m _ (refl, m-fits) $ fjoin ! $
         move ! (2 ∷ 0 ∷ []) $ fjoin ! $ move ! (1 ∷ 0 ∷ []) $ join ! $ frame ! $ done !
 
-    part-said : (p : RefT (List ℕ)) → ent 𝓤 (ensured 𝓤 H A part.ended (part.clauses 𝓤 H A at-mem run) (κ′, tt) (h .list, (m, (n, tt))) tt p) (fact 𝓤 (placed p ≡ partIn (placed (h .list)) m (n - m)))
-    part-said p = exE 𝓤 _ (λ ws. snd∗ 𝓤 (sem 𝓤 H A (lasts part.ended (κ′, tt) (h .list, (m, (n, tt))) ws)) (fact 𝓤 (placed p ≡ partIn (placed (h .list)) m (n - m))))
+    part-said : (p : RefT (List ℕ)) → ent 𝓤 (ensured 𝓤 H A part.ended (part.clauses 𝓤 H A at-mem run) (κ′, tt) (h .list, (m, (n, tt))) tt p) (fact 𝓤 (Taken m n p))
+    part-said p = exE 𝓤 _ (λ ws. snd∗ 𝓤 (sem 𝓤 H A (lasts part.ended (κ′, tt) (h .list, (m, (n, tt))) ws)) (fact 𝓤 (Taken m n p)))
 
   -- what is known of the machine values of the reader, and of a part that `part_at` returned
   reader-wt : Is R h (mach α h ∷ []) → Holds (hasTy (T′.mir (named 1)) (mach α h)) × WT (mach α h)
@@ -147,7 +151,7 @@ module _ {M : Type 1} (𝓤 : URA M) (H : Heap 𝓤) (A : Atoms 𝓤) (W : Given
   part-wt : (p : RefT (List ℕ)) (u : Val) → Is (ShrSlice (named 0) κ′ u8) p (u ∷ []) → Holds (hasTy (sliceTy (tyRef erased imm (tyInt w8))) (only (slice-vals p))) × WT (only (slice-vals p))
   part-wt p u is = shr-slice-lawful 𝓤 H A W erased κ′ u8 .typed p (slice-vals p) (subst (Is (ShrSlice (named 0) κ′ u8) p) (shr-slice-tells (named 0) κ′ u8 p _ is) is) .0
 
-  exits : (r : Advance) (p : RefT (List ℕ)) → r ≡ found → placed p ≡ partIn (placed (h .list)) (r .from) (r .end - r .from) → r .number < 2 ^ 8
+  exits : (r : Advance) (p : RefT (List ℕ)) → r ≡ found → Taken (r .from) (r .end) p → r .number < 2 ^ 8
       → ent 𝓤 (⋆ 𝓤 H A (‵ (fobs γ (R .coded .code (moved h (r .next)))) ∷ ‵ (fbor κ (Body (mem R) b o γ)) ∷ ‵ (flft κ q) ∷ (‵ (flft κ′ q′) ⊛ ‵ ftrue) ∷ ‵ (ShrSlice (named 1) κ′ u8 .own p (slice-vals p)) ∷ [])) (Post (shown (r .number) p))
   exits r p e e₂ fits =
       qed W (‵ (fobs γ (R .coded .code (moved h (r .next)))) ∷ ‵ (fbor κ (Body (mem R) b o γ)) ∷ ‵ (flft κ q) ∷ (‵ (flft κ′ q′) ⊛ ‵ ftrue) ∷ ‵ (ShrSlice (named 1) κ′ u8 .own p (slice-vals p)) ∷ []) ∵
@@ -185,7 +189,7 @@ module _ {M : Type 1} (𝓤 : URA M) (H : Heap 𝓤) (A : Atoms 𝓤) (W : Given
         move ! (3 ∷ 0 ∷ []) $ use2 W (raw (PartAt 𝓤 H A at-mem run .pre (to-part (r .from) (r .end)))) (goes-part (r .from) (r .end) (from-fits r u is) (end-fits r u is)) $
         calls-at ! fm (PartAt 𝓤 H A at-mem run) known-part (to-part (r .from) (r .end)) (and-then ! (load ! (from ! (stop !)) (look ! 14 refl)) (and-then ! (load ! (from ! (fld ! refl (stop !))) (look-in ! 12 (sub ! 1 refl (whole !)))) (and-then ! (load ! (from ! (fld ! refl (stop !))) (look-in ! 12 (sub ! 2 refl (whole !)))) (no-more !)))) (λ u₂.
         use1 W (later (some (λ (p : RefT (List ℕ)). ((‵ (flft κ′ q′) ⊛ ‵ ftrue) ⊛ ‵ (ShrSlice (named 0) κ′ u8 .own p (u₂ ∷ []))) ⊛ raw (ensured 𝓤 H A part.ended (part.clauses 𝓤 H A at-mem run) (κ′, tt) (h .list, (r .from, (r .end, tt))) tt p)))) (id⊢ 𝓤 _) $ await ! tt $ pick ! (λ p.
-        split ! $ move ! (1 ∷ []) $ use1 W (raw (fact 𝓤 (placed p ≡ partIn (placed (h .list)) (r .from) (r .end - r .from)))) (part-said (r .from) (r .end) p) $ heard ! (placed p ≡ partIn (placed (h .list)) (r .from) (r .end - r .from)) (λ e₂. split ! $ move ! (1 ∷ []) $
+        split ! $ move ! (1 ∷ []) $ use1 W (raw (fact 𝓤 (Taken (r .from) (r .end) p))) (part-said (r .from) (r .end) p) $ heard ! (Taken (r .from) (r .end) p) (λ e₂. split ! $ move ! (1 ∷ []) $
         -- [the part; 'a's token; what the reader owns; the first result; the reader's cell; the open borrow; obs; auth; …; _5; …; _4; …; _3; …; _2; …; _1; …; room for _0; …]
         peeks ! (ShrSlice (named 0) κ′ u8) (Is (ShrSlice (named 0) κ′ u8)) (shows 𝓤 H A (ShrSlice (named 0) κ′ u8)) p (u₂ ∷ []) (λ is₂.
         land ! (from ! (stop !)) (init ! 9 refl (shr-slice-lawful 𝓤 H A W erased κ′ u8 .typed p _ is₂ .0)) $
