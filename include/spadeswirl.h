@@ -10,13 +10,13 @@
  *
  *    0  done
  *    1  the key table breaks its layout, or has more than 64 rows
- *    2  the length of a lent key, IV, tag or block is wrong, a name is empty, or
- *       a record, a page, a list or a label breaks its layout
+ *    2  the length of a lent key, IV, tag or block is wrong, a name is empty,
+ *       or a record, a page, a list or a label breaks its layout
  *    3  a record's mode is neither 1 nor 2, or a page has a field, KEK type or
  *       format that is not permitted
  *    4  a maximum is passed: associated data over 4,152 bytes (4,096 for a
- *       record), text over 1,048,576, a name over 32, or a
- *       page or label over 4,096
+ *       record), text over 1,048,576, a name, reference or identifier over
+ *       32, or a page or label over 4,096
  *    5  the output is shorter than the result
  *    6  no row of that name
  *    7  the row's use is another
@@ -26,12 +26,17 @@
  *
  * The lowest number that applies is given. After any number but 0 nothing
  * that was lent has changed. After 0 the bytes of an output past the result
- * are as they were. No call allocates, keeps a pointer, or uses memory other
- * than its stack (up to some 28 KB).
+ * are as they were. No call allocates, keeps a pointer, or has a state of its
+ * own; what it writes besides what it is lent is its stack (up to some 28 KB).
  *
  * What the caller owes, since no statement can say it: each pointer is good
- * for its length, and a string that a call writes overlaps no other string
- * of the same call.
+ * for its length, and one to a number, to fields, to places or to a session
+ * for the whole of that; and whatever a call may write (an output, a block, a
+ * number, fields, places, a session) overlaps nothing else that the same call
+ * is lent. Strings that a call only reads may overlap one another.
+ *
+ * How long a call takes, and what is left on the stack after it, no statement
+ * says either: docs/TRUST.md.
  */
 #ifndef SPADESWIRL_H
 #define SPADESWIRL_H
@@ -45,7 +50,7 @@ extern "C" {
 
 /*
  * AES-256 (FIPS 197), one block, changed in place. The key has 32 bytes and
- * the block 16, else 2.
+ * the block 16, else 2. Numbers: 0, 2.
  *
  * This is the bare block cipher. To encrypt data use a mode, and to encrypt
  * records use the calls that take a key table.
@@ -57,8 +62,8 @@ uint8_t spadeswirl_aes256_decrypt(const uint8_t *key, size_t key_len,
 
 /*
  * CCM (SP 800-38C) and GCM (SP 800-38D) under AES-256, by themselves. The key
- * has 32 bytes, the IV 12 and the tag 16, else 2; the caller never uses an IV
- * twice with one key.
+ * has 32 bytes, the IV 12 and the tag 16, else 2. That no IV is used twice
+ * with one key is the caller's to see to.
  *
  * Encryption fills the first plain_len + 16 bytes of the output: ciphertext,
  * then tag. Numbers: 0, 2, 4, 5.
@@ -94,9 +99,9 @@ uint8_t spadeswirl_gcm_decrypt(const uint8_t *key, size_t key_len,
 
 /*
  * AES Key Wrap (NIST, November 2001) of a key of 32 bytes under a
- * key-encrypting key of 32 bytes. Wrapping fills the first 40 bytes of the
- * output; numbers 0, 2, 5. Unwrapping takes 40 bytes and fills the first 32;
- * numbers 0, 2, 5, 8, 9.
+ * key-encrypting key of 32 bytes, else 2. Wrapping fills the first 40 bytes of
+ * the output; numbers 0, 2, 5. Unwrapping takes 40 bytes, else 8, and fills the
+ * first 32 once the start value is found right; numbers 0, 2, 5, 8, 9.
  */
 uint8_t spadeswirl_wrap(const uint8_t *kek, size_t kek_len,
                         const uint8_t *key, size_t key_len,
@@ -106,10 +111,14 @@ uint8_t spadeswirl_unwrap(const uint8_t *kek, size_t kek_len,
                           uint8_t *out, size_t out_len);
 
 /*
- * The key table: a header of 8 bytes and rows of 72, each a name of 1 to 32
- * bytes, a use (1 CCM, 2 GCM, 3 key-encrypting key) and a key of 32 bytes.
- * 1 where the table breaks its layout, has more than 64 rows, or has two rows
- * of one name; else 0.
+ * The key table, which the caller makes, all numbers big-endian: bytes 0-1
+ * 0001h, 2-3 the count of rows, 4-5 0008h, 6-7 0048h, then the rows, of 72
+ * bytes each, and nothing after them. A row: byte 0 the length of its name, 1
+ * to 32; 1 its use (1 CCM, 2 GCM, 3 key-encrypting key); 2-7 zero; 8-39 the
+ * name, and zeros after it; 40-71 the key.
+ *
+ * 1 where the table breaks this layout, has more than 64 rows, or has two rows
+ * of one name, that is, of the same length and bytes; else 0.
  */
 uint8_t spadeswirl_table_check(const uint8_t *table, size_t table_len);
 
@@ -123,15 +132,19 @@ uint8_t spadeswirl_find(const uint8_t *table, size_t table_len,
                         const uint8_t *name, size_t name_len, uint64_t *use);
 
 /*
- * A record: a header of 24 bytes, the key's name, the IV, the ciphertext and
- * the tag; 52 + name_len + plain_len bytes in all. Its associated data is its
- * own first 24 + name_len bytes, then the caller's, of at most 4,096.
+ * A record: a header of 24 bytes, the key's name (k bytes), the IV (12), the
+ * ciphertext (n) and the tag (16); 52 + k + n bytes in all. The header, all
+ * numbers big-endian: bytes 0-1 0001h, 2 the mode (1 CCM, 2 GCM), 3 zero, 4-7
+ * n, 8-9 24, 10-11 k, 12-13 24 + k, 14-15 12, 16-19 36 + k, 20-23 36 + k + n.
+ * A record's associated data is its own first 24 + k bytes, then the caller's,
+ * of at most 4,096.
  *
- * Sealing is by the row of exactly that name, whose use is the mode; the IV
- * has 12 bytes, and the caller never uses one twice with one key. It fills the
- * first 52 + name_len + plain_len bytes of the output. Numbers: 0; 1; 2 for an
- * empty name or another length of IV; 4 where a maximum is passed; 5; 6 where
- * no row has the name; 7 for the row of a key-encrypting key.
+ * Sealing is by the row of exactly that name, whose use is the mode. The IV has
+ * 12 bytes; that none is used twice with one key is the caller's to see to, or
+ * a session's (below). It fills the first 52 + name_len + plain_len bytes of
+ * the output. Numbers: 0; 1; 2 for an empty name or another length of IV; 4
+ * where a maximum is passed; 5; 6 where no row has the name; 7 for the row of a
+ * key-encrypting key.
  */
 uint8_t spadeswirl_seal(const uint8_t *table, size_t table_len,
                         const uint8_t *name, size_t name_len,
@@ -165,8 +178,8 @@ uint8_t spadeswirl_session_start(struct spadeswirl_session *session,
 
 /*
  * Writes the next IV over the first 12 bytes of the output. Numbers: 0; 5 for
- * an output under 12 bytes; 10. The IV of 2^64 - 1 is given; the calls after
- * it give 10.
+ * an output under 12 bytes; 10 once the session is spent, which it is after the
+ * IV of 2^64 - 1 has been given.
  */
 uint8_t spadeswirl_session_issue(struct spadeswirl_session *session,
                                  uint8_t *out, size_t out_len);
@@ -238,10 +251,19 @@ uint8_t spadeswirl_label_check(const uint8_t *label, size_t label_len,
  * A key page (SSC-3, Set Data Encryption), read by itself. Its fields, in
  * order: scope, lock, CEEM, RDMC, SDK, CKOD, CKORP, CKORL, encryption mode,
  * decryption mode, algorithm index (1 CCM, 2 GCM), key format, KEY LENGTH, and
- * the number of its descriptors that are not reserved. Numbers: 0 with the
- * fields stored; 2 where its bytes break the layout, the KEY part of a known
- * format too; 3 for a field, a KEK type or a format that is not permitted; 4
- * for a page over 4,096 bytes, or a reference or identifier over 32.
+ * the number of its descriptors that are not reserved. Permitted are scope 0 to
+ * 2, encryption mode 0 to 2, decryption mode 0 to 3, algorithm index 1 and 2,
+ * and these formats, with their KEY part:
+ *
+ *   00h  the key, 32 bytes
+ *   01h  a reference, 9 to 32 bytes
+ *   04h  a KEK type of two bytes (0001h, 0002h), the identifier's length in two
+ *        more, an identifier of 1 to 32 bytes, and the wrapped key
+ *
+ * Numbers: 0 with the fields stored; 2 where its bytes break the layout, the
+ * KEY part of a known format too; 3 for a field, a KEK type or a format that is
+ * not permitted; 4 for a page over 4,096 bytes, or a reference or identifier
+ * over 32.
  */
 uint8_t spadeswirl_page_read(const uint8_t *page, size_t page_len,
                              uint64_t fields[14]);
