@@ -1,79 +1,37 @@
 -- The cipher and the inverse cipher undo one another, on blocks of 16 bytes and schedules of bytes.
 -- Assumes nothing.
-use mathlib.Core.Path.{_≡_, refl, sym, ap, _∙_, subst⁻¹}
+use mathlib.Core.Path.{_≡_, sym, ap, _∙_, subst⁻¹}
 use mathlib.Core.List.{List, []}
-use Prim.Native.Nat.{ℕ, zero, suc, _+_, _-_, _*_, _/_, _%_, _<_}
-use lib.Bits.{bitXor}
+use Prim.Native.Nat.{ℕ, zero, suc}
 use lib.ListN.{length, getD}
 use Rattle.octets.specs.Bytes.{Bytes}
-use Rattle.octets.proofs.Values.{values-same, values-list}
-use Rattle.octets.proofs.Bytes.{bytes-values}
-use Rattle.octets.proofs.Xor.{xor-cancel, xor-byte}
-use Rattle.aes_field.specs.Field.{times, sbox, invSbox}
-use Rattle.aes_field.specs.Words.{Column, columnOf, sum4, timesMatrix, mixRow, invMixRow}
-use Rattle.aes_field.proofs.Linear.{times-byte, sum4-byte}
+use Rattle.aes_field.specs.Field.{sbox, invSbox}
 use Rattle.aes_field.proofs.Inverse.{sbox-byte, invSbox-byte, invSbox-sbox, sbox-invSbox}
-use Rattle.aes_field.proofs.Unmix.{inv-mix-mix, mix-inv-mix}
-use Rattle.aes.specs.State.{State, column, stateOf, stateFrom, bytesOf}
-use Rattle.aes.specs.Cipher.{subBytes, shiftRows, mixColumn, mixColumns, addRoundKey, round, lastRound, rounds, cipher}
+pub use Rattle.aes_state.specs.Laws.{IsState}
+use Rattle.aes_state.specs.Laws.{IsKey}
+use Rattle.aes_state.proofs.Grid.{grid-same}
+use Rattle.aes_state.proofs.Laws as steps
+use Rattle.aes.specs.State.{State, stateFrom, bytesOf}
+use Rattle.aes.specs.Cipher.{subBytes, shiftRows, mixColumns, addRoundKey, round, lastRound, rounds, cipher}
 use Rattle.aes.specs.Cipher.Inside.{cipher-is}
-use Rattle.aes.specs.InvCipher.{invSubBytes, invShiftRows, invMixColumn, invMixColumns, invRound, invLastRound, invRounds, invCipher}
+use Rattle.aes.specs.InvCipher.{invSubBytes, invShiftRows, invMixColumns, invRound, invLastRound, invRounds, invCipher}
 use Rattle.aes.specs.InvCipher.Inside.{invCipher-is}
-use Rattle.aes.proofs.Keys.{IsKey, AreKeys}
+use Rattle.aes.proofs.Keys.{AreKeys}
 
--- the state whose byte in row r of column c is g c r
-abbrev pub grid : (ℕ → ℕ → ℕ) → State
-grid g = stateOf (λ c. columnOf (g c))
+-- AddRoundKey and the state of a block, for the fast way too
+pub add-state : {s : State} → IsState s → (k : State) → IsKey k → IsState (addRoundKey s k)
+add-state {s} w k hk = steps.add-state s k w hk
 
--- four columns of four bytes
-pub record IsState (s : State) : Type 0 where
-  pub at : ℕ → ℕ → ℕ
-  pub is : s ≡ grid at
-  pub bytes : (c r : ℕ) → at c r < 256
+pub block-state : {b : List ℕ} → Bytes b → IsState (stateFrom b)
+block-state {b} w = steps.block-state b w
 
-columns-same : (f g : ℕ → Column) → ((c : ℕ) → f c ≡ g c) → stateOf f ≡ stateOf g
-columns-same f g p = values-same f g 0 4 (λ c _ _. p c)
-
-grid-same : (f g : ℕ → ℕ → ℕ) → ((c r : ℕ) → f c r ≡ g c r) → grid f ≡ grid g
-grid-same f g p = columns-same (λ c. columnOf (f c)) (λ c. columnOf (g c)) (λ c. values-same (f c) (g c) 0 4 (λ r _ _. p c r))
-
--- each step makes a state of a state
-
+-- 5.1.1 and 5.3.2: each undoes the other
 module _ {s : State} (w : IsState s) where
   sub-state : IsState (subBytes s)
   sub-state = record { at = λ c r. sbox (w .at c r); is = ap subBytes (w .is); bytes = λ c r. sbox-byte (w .at c r) (w .bytes c r) }
 
   inv-sub-state : IsState (invSubBytes s)
   inv-sub-state = record { at = λ c r. invSbox (w .at c r); is = ap invSubBytes (w .is); bytes = λ c r. invSbox-byte (w .at c r) (w .bytes c r) }
-
-  shift-state : IsState (shiftRows s)
-  shift-state = record { at = λ c r. w .at ((c + r) % 4) r; is = ap shiftRows (w .is); bytes = λ c r. w .bytes ((c + r) % 4) r }
-
-  inv-shift-state : IsState (invShiftRows s)
-  inv-shift-state = record { at = λ c r. w .at ((c + 4 - r) % 4) r; is = ap invShiftRows (w .is); bytes = λ c r. w .bytes ((c + 4 - r) % 4) r }
-
-  matrix-state : (k : Column) → IsState (stateOf (λ c. timesMatrix k (column s c)))
-  matrix-state k =
-      record {
-        at = λ c r. sum4 (λ j. times (w .at c j) (getD k ((j + 4 - r) % 4) 0));
-        is = ap (λ (x : State). stateOf (λ c. timesMatrix k (column x c))) (w .is);
-        bytes = λ c r. sum4-byte (λ j. times (w .at c j) (getD k ((j + 4 - r) % 4) 0)) (λ j. times-byte (getD k ((j + 4 - r) % 4) 0) (w .bytes c j));
-      }
-
-  pub add-state : (k : State) → IsKey k → IsState (addRoundKey s k)
-  add-state k hk =
-      record {
-        at = λ c r. bitXor (w .at c r) (getD (column k c) r 0);
-        is = ap (λ (x : State). addRoundKey x k) (w .is);
-        bytes = λ c r. xor-byte (w .bytes c r) (hk .columns c .byte r);
-      }
-
-  -- and is undone
-  add-add : (k : State) → addRoundKey (addRoundKey s k) k ≡ s
-  add-add k =
-      ap (λ (x : State). addRoundKey (addRoundKey x k) k) (w .is)
-      ∙ grid-same (λ c r. bitXor (bitXor (w .at c r) (getD (column k c) r 0)) (getD (column k c) r 0)) (w .at) (λ c r. xor-cancel (w .at c r) (getD (column k c) r 0))
-      ∙ sym (w .is)
 
   inv-sub-sub : invSubBytes (subBytes s) ≡ s
   inv-sub-sub =
@@ -85,22 +43,6 @@ module _ {s : State} (w : IsState s) where
       ap (λ (x : State). subBytes (invSubBytes x)) (w .is)
       ∙ grid-same (λ c r. sbox (invSbox (w .at c r))) (w .at) (λ c r. sbox-invSbox (w .at c r) (w .bytes c r)) ∙ sym (w .is)
 
-  inv-shift-shift : invShiftRows (shiftRows s) ≡ s
-  inv-shift-shift = ap (λ (x : State). invShiftRows (shiftRows x)) (w .is) ∙ sym (w .is)
-
-  shift-inv-shift : shiftRows (invShiftRows s) ≡ s
-  shift-inv-shift = ap (λ (x : State). shiftRows (invShiftRows x)) (w .is) ∙ sym (w .is)
-
-  inv-mix-mixed : invMixColumns (mixColumns s) ≡ s
-  inv-mix-mixed =
-      ap (λ (x : State). invMixColumns (mixColumns x)) (w .is)
-      ∙ columns-same (λ c. invMixColumn (mixColumn (columnOf (w .at c)))) (λ c. columnOf (w .at c)) (λ c. inv-mix-mix (w .at c) (w .bytes c)) ∙ sym (w .is)
-
-  mix-inv-mixed : mixColumns (invMixColumns s) ≡ s
-  mix-inv-mixed =
-      ap (λ (x : State). mixColumns (invMixColumns x)) (w .is)
-      ∙ columns-same (λ c. mixColumn (invMixColumn (columnOf (w .at c)))) (λ c. columnOf (w .at c)) (λ c. mix-inv-mix (w .at c) (w .bytes c)) ∙ sym (w .is)
-
 -- ShiftRows after SubBytes, and back
 abbrev scrambled : State → State
 scrambled s = shiftRows (subBytes s)
@@ -110,24 +52,24 @@ unscrambled s = invSubBytes (invShiftRows s)
 
 module _ {s : State} (w : IsState s) where
   scrambled-state : IsState (scrambled s)
-  scrambled-state = shift-state (sub-state w)
+  scrambled-state = steps.shift-state _ (sub-state w)
 
   unscrambled-state : IsState (unscrambled s)
-  unscrambled-state = inv-sub-state (inv-shift-state w)
+  unscrambled-state = inv-sub-state (steps.inv-shift-state s w)
 
   unscrambled-scrambled : unscrambled (scrambled s) ≡ s
-  unscrambled-scrambled = ap invSubBytes (inv-shift-shift (sub-state w)) ∙ inv-sub-sub w
+  unscrambled-scrambled = ap invSubBytes (steps.inv-shift-shift _ (sub-state w)) ∙ inv-sub-sub w
 
   scrambled-unscrambled : scrambled (unscrambled s) ≡ s
-  scrambled-unscrambled = ap shiftRows (sub-inv-sub (inv-shift-state w)) ∙ shift-inv-shift w
+  scrambled-unscrambled = ap shiftRows (sub-inv-sub (steps.inv-shift-state s w)) ∙ steps.shift-inv-shift s w
 
   round-state : (k : State) → IsKey k → IsState (round s k)
   unfolding round
-  round-state k hk = add-state (matrix-state scrambled-state mixRow) k hk
+  round-state k hk = add-state (steps.mix-state _ scrambled-state) k hk
 
   inv-round-state : (k : State) → IsKey k → IsState (invRound s k)
   unfolding invRound
-  inv-round-state k hk = matrix-state (add-state unscrambled-state k hk) invMixRow
+  inv-round-state k hk = steps.inv-mix-state _ (add-state unscrambled-state k hk)
 
 -- a round, scrambled on to the next, is undone, and the other way round
 module _ {s : State} (w : IsState s) (k : State) (hk : IsKey k) where
@@ -135,15 +77,15 @@ module _ {s : State} (w : IsState s) (k : State) (hk : IsKey k) where
   unfolding invRound round
   inv-round-round =
       ap (λ (x : State). invMixColumns (addRoundKey x k)) (unscrambled-scrambled (round-state w k hk))
-      ∙ ap invMixColumns (add-add (matrix-state (scrambled-state w) mixRow) k)
-      ∙ inv-mix-mixed (scrambled-state w)
+      ∙ ap invMixColumns (steps.add-add k _ (steps.mix-state _ (scrambled-state w)))
+      ∙ steps.inv-mix-mixed _ (scrambled-state w)
 
   round-inv-round : (t : State) → scrambled t ≡ invRound s k → scrambled (round t k) ≡ s
   unfolding invRound round
   round-inv-round t e =
       ap (λ (x : State). scrambled (addRoundKey (mixColumns x) k)) e
-      ∙ ap (λ (x : State). scrambled (addRoundKey x k)) (mix-inv-mixed (add-state (unscrambled-state w) k hk))
-      ∙ ap scrambled (add-add (unscrambled-state w) k) ∙ scrambled-unscrambled w
+      ∙ ap (λ (x : State). scrambled (addRoundKey x k)) (steps.mix-inv-mixed _ (add-state (unscrambled-state w) k hk))
+      ∙ ap scrambled (steps.add-add k _ (unscrambled-state w)) ∙ scrambled-unscrambled w
 
 module _ (ks : List State) (keys : AreKeys ks) where
   pub rounds-state : (n : ℕ) {s : State} → IsState s → IsState (rounds ks n s)
@@ -164,24 +106,12 @@ module _ (ks : List State) (keys : AreKeys ks) where
 
   rounds-inv-rounds : (n : ℕ) {s : State} → IsState s → scrambled (rounds ks n (addRoundKey (invRounds ks n s) (getD ks 0 []))) ≡ s
   unfolding rounds invRounds invLastRound
-  rounds-inv-rounds zero w = ap scrambled (add-add (unscrambled-state w) (getD ks 0 [])) ∙ scrambled-unscrambled w
+  rounds-inv-rounds zero w = ap scrambled (steps.add-add (getD ks 0 []) _ (unscrambled-state w)) ∙ scrambled-unscrambled w
   rounds-inv-rounds (suc n) w =
       round-inv-round w (getD ks (suc n) []) (keys (suc n)) (rounds ks n (addRoundKey (invRounds ks (suc n) _) (getD ks 0 [])))
       (rounds-inv-rounds n (inv-round-state w (getD ks (suc n) []) (keys (suc n))))
 
 -- blocks
-
-pub block-state : {b : List ℕ} → Bytes b → IsState (stateFrom b)
-block-state {b} w = record { at = λ c r. getD b (r + 4 * c) 0; is = refl; bytes = λ c r. w .byte (r + 4 * c) }
-
-state-again : {s : State} → IsState s → stateFrom (bytesOf s) ≡ s
-state-again w = ap (λ (x : State). stateFrom (bytesOf x)) (w .is) ∙ sym (w .is)
-
-block-again : (b : List ℕ) → length b ≡ 16 → bytesOf (stateFrom b) ≡ b
-block-again b long = values-list b 0 16 long
-
-state-bytes : {s : State} → IsState s → Bytes (bytesOf s)
-state-bytes w = subst⁻¹ (λ (x : State). Bytes (bytesOf x)) (w .is) (bytes-values (λ i. w .at (i / 4) (i % 4)) 0 16 (λ i. w .bytes (i / 4) (i % 4)))
 
 module _ (ks : List State) (keys : AreKeys ks) {b : List ℕ} (bytes : Bytes b) where
   start : IsState (stateFrom b)
@@ -195,25 +125,25 @@ module _ (ks : List State) (keys : AreKeys ks) {b : List ℕ} (bytes : Bytes b) 
 
   pub cipher-bytes : Bytes (cipher ks b)
   unfolding lastRound
-  cipher-bytes = subst⁻¹ Bytes (cipher-is ks b) (state-bytes (add-state last (getD ks 14 []) (keys 14)))
+  cipher-bytes = subst⁻¹ Bytes (cipher-is ks b) (steps.state-bytes _ (add-state last (getD ks 14 []) (keys 14)))
 
   pub invCipher-bytes : Bytes (invCipher ks b)
-  invCipher-bytes = subst⁻¹ Bytes (invCipher-is ks b) (state-bytes (inv-rounds-state ks keys 13 (first 14)))
+  invCipher-bytes = subst⁻¹ Bytes (invCipher-is ks b) (steps.state-bytes _ (inv-rounds-state ks keys 13 (first 14)))
 
   pub invCipher-cipher : length b ≡ 16 → invCipher ks (cipher ks b) ≡ b
   unfolding lastRound
   invCipher-cipher long =
       ap (invCipher ks) (cipher-is ks b) ∙ invCipher-is ks _
-      ∙ ap (λ (x : State). bytesOf (invRounds ks 13 (addRoundKey x (getD ks 14 [])))) (state-again (add-state last (getD ks 14 []) (keys 14)))
-      ∙ ap (λ (x : State). bytesOf (invRounds ks 13 x)) (add-add last (getD ks 14 []))
-      ∙ ap bytesOf (inv-rounds-rounds ks keys 13 (first 0) ∙ add-add start (getD ks 0 []))
-      ∙ block-again b long
+      ∙ ap (λ (x : State). bytesOf (invRounds ks 13 (addRoundKey x (getD ks 14 [])))) (steps.state-again _ (add-state last (getD ks 14 []) (keys 14)))
+      ∙ ap (λ (x : State). bytesOf (invRounds ks 13 x)) (steps.add-add (getD ks 14 []) _ last)
+      ∙ ap bytesOf (inv-rounds-rounds ks keys 13 (first 0) ∙ steps.add-add (getD ks 0 []) _ start)
+      ∙ steps.block-again b long
 
   pub cipher-invCipher : length b ≡ 16 → cipher ks (invCipher ks b) ≡ b
   unfolding lastRound
   cipher-invCipher long =
       ap (cipher ks) (invCipher-is ks b) ∙ cipher-is ks _
-      ∙ ap (λ (x : State). bytesOf (lastRound (rounds ks 13 (addRoundKey x (getD ks 0 []))) (getD ks 14 []))) (state-again (inv-rounds-state ks keys 13 (first 14)))
+      ∙ ap (λ (x : State). bytesOf (lastRound (rounds ks 13 (addRoundKey x (getD ks 0 []))) (getD ks 14 []))) (steps.state-again _ (inv-rounds-state ks keys 13 (first 14)))
       ∙ ap (λ (x : State). bytesOf (addRoundKey x (getD ks 14 []))) (rounds-inv-rounds ks keys 13 (first 14))
-      ∙ ap bytesOf (add-add start (getD ks 14 []))
-      ∙ block-again b long
+      ∙ ap bytesOf (steps.add-add (getD ks 14 []) _ start)
+      ∙ steps.block-again b long

@@ -16,6 +16,7 @@ use Rattle.aes_field.specs.Field.{xtime, sbox}
 use Rattle.aes_field.specs.Words.{Column, columnOf}
 use Rattle.aes_field.proofs.Linear.{xtime-byte}
 use Rattle.aes_field.proofs.Inverse.{sbox-byte}
+use Rattle.aes_state.specs.Laws.{IsKey}
 use Rattle.aes.specs.State.{State, column, stateOf}
 use Rattle.aes.specs.Cipher.{subColumn, addColumn}
 use Rattle.aes.specs.KeyExpansion.{rotWord, power, rcon, temp, keyWord, words, roundKey, schedule}
@@ -33,10 +34,6 @@ module _ {A : Type 0} (P : A → Type 0) (d : A) (past : P d) where
   all-more [] a h p (suc k) = past
   all-more (x ∷ l) a h p zero = h zero
   all-more (x ∷ l) a h p (suc k) = all-more l a (λ m. h (suc m)) p k
-
--- a round key's bytes are bytes
-pub record IsKey (k : State) : Type 0 where
-  pub columns : (c : ℕ) → Bytes (column k c)
 
 abbrev pub AreKeys : List State → Type 0
 AreKeys ks = (n : ℕ) → IsKey (getD ks n [])

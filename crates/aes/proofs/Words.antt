@@ -11,6 +11,7 @@ use lib.Seq.{getD-at}
 use Rattle.octets.specs.Values.{values}
 use Rattle.octets.proofs.Values.{getD-values, values-more}
 use Rattle.aes_field.specs.Words.{Column}
+use Rattle.aes_state.proofs.Grid.{four}
 use Rattle.aes.specs.State.{State, column, stateOf}
 use Rattle.aes.specs.Cipher.{addColumn}
 use Rattle.aes.specs.KeyExpansion.{temp, keyWord, words, roundKey, schedule, nextKey, extended}
@@ -49,9 +50,6 @@ module _ (key : List ℕ) where
         where
           sum : 52 ≡ m + (52 - m)
           sum = omega arith
-
-four : {a b c d a′ b′ c′ d′ : Column} → a ≡ a′ → b ≡ b′ → c ≡ c′ → d ≡ d′ → a ∷ b ∷ c ∷ d ∷ [] ≡ a′ ∷ b′ ∷ c′ ∷ d′ ∷ []
-four p q r s = cc
 
 -- four words, each made of the one before
 next-key : (k : State) (t a b c d : Column) → addColumn (column k 0) t ≡ a → addColumn (column k 1) a ≡ b → addColumn (column k 2) b ≡ c → addColumn (column k 3) c ≡ d

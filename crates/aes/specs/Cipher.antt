@@ -1,13 +1,14 @@
 -- FIPS 197, section 5.1: the cipher, at the key length 256, which has 14 rounds. A schedule is a list of fifteen round keys.
 -- `cipher` is shut: upper crates know it by its laws (specs/Laws.antt) alone, and `Cipher.Inside` is for the crates of the block cipher.
 -- Assumes nothing.
-use Prim.Native.Nat.{ℕ, zero, suc, _+_, _%_}
+use Prim.Native.Nat.{ℕ, zero, suc}
 use mathlib.Core.List.{List, []}
-use lib.Bits.{bitXor}
 use lib.ListN.{getD}
 use Rattle.aes_field.specs.Field.{sbox}
-use Rattle.aes_field.specs.Words.{Column, columnOf, timesMatrix, mixRow}
+use Rattle.aes_field.specs.Words.{Column, columnOf}
 use Rattle.aes.specs.State.{State, column, stateOf, stateFrom, bytesOf}
+-- 5.1.2 to 5.1.4
+pub use Rattle.aes_state.specs.Steps.{shiftRows, mixColumn, mixColumns, addColumn, addRoundKey}
 pub mod Inside
 
 -- 5.1.1
@@ -16,24 +17,6 @@ subColumn a = columnOf (λ r. sbox (getD a r 0))
 
 abbrev pub subBytes : State → State
 subBytes s = stateOf (λ c. subColumn (column s c))
-
--- 5.1.2: row r moves r places to the left
-abbrev pub shiftRows : State → State
-shiftRows s = stateOf (λ c. columnOf (λ r. getD (column s ((c + r) % 4)) r 0))
-
--- 5.1.3
-abbrev pub mixColumn : Column → Column
-mixColumn = timesMatrix mixRow
-
-abbrev pub mixColumns : State → State
-mixColumns s = stateOf (λ c. mixColumn (column s c))
-
--- 5.1.4
-abbrev pub addColumn : Column → Column → Column
-addColumn a k = columnOf (λ r. bitXor (getD a r 0) (getD k r 0))
-
-abbrev pub addRoundKey : State → State → State
-addRoundKey s k = stateOf (λ c. addColumn (column s c) (column k c))
 
 -- 5.1: rounds 1 to 13, and the last, without MixColumns
 unfoldable pub round : State → State → State

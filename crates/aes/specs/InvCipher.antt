@@ -1,17 +1,15 @@
 -- FIPS 197, section 5.3: the inverse cipher. `invCipher` is shut, as `cipher` is.
 -- Assumes nothing.
-use Prim.Native.Nat.{ℕ, zero, suc, _+_, _-_, _%_}
+use Prim.Native.Nat.{ℕ, zero, suc}
 use mathlib.Core.List.{List, []}
 use lib.ListN.{getD}
 use Rattle.aes_field.specs.Field.{invSbox}
-use Rattle.aes_field.specs.Words.{Column, columnOf, timesMatrix, invMixRow}
+use Rattle.aes_field.specs.Words.{Column, columnOf}
 use Rattle.aes.specs.State.{State, column, stateOf, stateFrom, bytesOf}
 use Rattle.aes.specs.Cipher.{addRoundKey}
+-- 5.3.1 and 5.3.3
+pub use Rattle.aes_state.specs.InvSteps.{invShiftRows, invMixColumn, invMixColumns}
 pub mod Inside
-
--- 5.3.1: row r moves r places to the right
-abbrev pub invShiftRows : State → State
-invShiftRows s = stateOf (λ c. columnOf (λ r. getD (column s ((c + 4 - r) % 4)) r 0))
 
 -- 5.3.2
 abbrev pub invSubColumn : Column → Column
@@ -19,13 +17,6 @@ invSubColumn a = columnOf (λ r. invSbox (getD a r 0))
 
 abbrev pub invSubBytes : State → State
 invSubBytes s = stateOf (λ c. invSubColumn (column s c))
-
--- 5.3.3
-abbrev pub invMixColumn : Column → Column
-invMixColumn = timesMatrix invMixRow
-
-abbrev pub invMixColumns : State → State
-invMixColumns s = stateOf (λ c. invMixColumn (column s c))
 
 -- 5.3: rounds 13 to 1, and the last, without InvMixColumns. 5.3.4: AddRoundKey is its own inverse.
 unfoldable pub invRound : State → State → State

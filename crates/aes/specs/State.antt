@@ -1,25 +1,3 @@
--- FIPS 197, section 3.4: the state. A state is a list of four columns of four bytes, as a round key is; a block is a list of 16 bytes.
+-- FIPS 197, section 3.4: the state, as `aes_state` has it.
 -- Assumes nothing.
-use Prim.Native.Nat.{ℕ, _+_, _*_}
-use mathlib.Core.List.{List, [], _∷_, _++_}
-use lib.ListN.{getD}
-use Rattle.aes_field.specs.Words.{Column, columnOf}
-
-abbrev pub State : Type 0
-State = List Column
-
-abbrev pub column : State → ℕ → Column
-column s c = getD s c []
-
-abbrev pub stateOf : (ℕ → Column) → State
-stateOf f = f 0 ∷ f 1 ∷ f 2 ∷ f 3 ∷ []
-
--- byte r + 4c of a block is in row r and column c
-abbrev pub stateFrom : List ℕ → State
-stateFrom b = stateOf (λ c. columnOf (λ r. getD b (r + 4 * c) 0))
-
-abbrev pub bytes : Column → List ℕ
-bytes a = columnOf (λ r. getD a r 0)
-
-abbrev pub bytesOf : State → List ℕ
-bytesOf s = bytes (column s 0) ++ bytes (column s 1) ++ bytes (column s 2) ++ bytes (column s 3)
+pub use Rattle.aes_state.specs.State.{State, column, stateOf, stateFrom, bytes, bytesOf}

@@ -1,10 +1,11 @@
 // The rounds of the cipher (FIPS 197, section 5.1). The S-box is lent down, since a constant that a leaf indexes is copied at each call.
-use crate::state::add_round_key;
-use aes_field::double;
+use aes_state::add_round_key;
+use aes_state::mix_columns;
+use aes_state::shift_rows;
 ghost use mathlib.Core.Path.{_≡_};
 ghost use Rattle.aes_field.specs.Field.{sbox};
 ghost use Rattle.aes_field.specs.Tables.{sboxTable};
-ghost use Rattle.aes.specs.Cipher.{subColumn, subBytes, shiftRows, mixColumn, mixColumns, round, lastRound, rounds};
+ghost use Rattle.aes.specs.Cipher.{subColumn, subBytes, round, lastRound, rounds};
 
 fn sub(t: &[u8; 256], a: u8) -> u8
     requires { ⌜ now t ≡ sboxTable ⌝ }
@@ -29,43 +30,6 @@ fn sub_bytes(t: &[u8; 256], s: [[u8; 4]; 4]) -> [[u8; 4]; 4]
         sub_column(t, s[1]),
         sub_column(t, s[2]),
         sub_column(t, s[3]),
-    ]
-}
-
-fn shift_rows(s: [[u8; 4]; 4]) -> [[u8; 4]; 4]
-    ensures { λ r. ⌜ r ≡ shiftRows s ⌝ }
-{
-    [
-        [s[0][0], s[1][1], s[2][2], s[3][3]],
-        [s[1][0], s[2][1], s[3][2], s[0][3]],
-        [s[2][0], s[3][1], s[0][2], s[1][3]],
-        [s[3][0], s[0][1], s[1][2], s[2][3]],
-    ]
-}
-
-fn mix_column(a: [u8; 4]) -> [u8; 4]
-    ensures { λ r. ⌜ r ≡ mixColumn a ⌝ }
-{
-    let d0 = double(a[0]);
-    let d1 = double(a[1]);
-    let d2 = double(a[2]);
-    let d3 = double(a[3]);
-    [
-        d0 ^ (a[1] ^ d1) ^ a[2] ^ a[3],
-        a[0] ^ d1 ^ (a[2] ^ d2) ^ a[3],
-        a[0] ^ a[1] ^ d2 ^ (a[3] ^ d3),
-        (a[0] ^ d0) ^ a[1] ^ a[2] ^ d3,
-    ]
-}
-
-fn mix_columns(s: [[u8; 4]; 4]) -> [[u8; 4]; 4]
-    ensures { λ r. ⌜ r ≡ mixColumns s ⌝ }
-{
-    [
-        mix_column(s[0]),
-        mix_column(s[1]),
-        mix_column(s[2]),
-        mix_column(s[3]),
     ]
 }
 

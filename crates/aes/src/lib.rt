@@ -2,10 +2,12 @@
 mod backward;
 mod forward;
 mod schedule;
-pub mod state;
 
 use aes_field::inv_sbox_table;
 use aes_field::sbox_table;
+use aes_state::add_round_key;
+use aes_state::load;
+use aes_state::store;
 use backward::all_inv_rounds;
 use forward::all_rounds;
 use forward::last_round;
@@ -13,9 +15,6 @@ use octets::strings::put;
 use schedule::extend;
 use schedule::first_key;
 use schedule::second_key;
-use state::add_round_key;
-use state::load;
-use state::store;
 ghost use mathlib.Core.Path.{_≡_};
 ghost use lib.ListN.{length};
 ghost use Rattle.octets.specs.Lent.{over};

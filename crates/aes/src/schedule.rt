@@ -1,9 +1,10 @@
 // The key schedule (FIPS 197, section 5.2), four words at a time.
 use crate::forward::sub_column;
-use crate::state::add_column;
+use aes_state::add_column;
 ghost use mathlib.Core.Path.{_≡_};
 ghost use mathlib.Core.List.{[], _∷_};
-ghost use Prim.Native.Nat.{_+_, _*_, _<_};
+ghost use Prim.Native.Nat.{_+_, _*_, _≤_, _<_};
+ghost use lib.ListN.{getD};
 ghost use Rattle.aes_field.specs.Tables.{sboxTable};
 ghost use Rattle.aes.specs.State.{stateOf};
 ghost use Rattle.aes.specs.KeyExpansion.{rotWord, power, temp, keyWord, nextKey, extended};
@@ -63,14 +64,22 @@ pub(crate) fn extend(t: &[u8; 256], first: [[u8; 4]; 4], second: [[u8; 4]; 4]) -
     ks
 }
 
+// The word of the key that begins at a place.
+fn key_word(key: [u8; 32], at: usize) -> [u8; 4]
+    requires { ⌜ at ≤ 28 ⌝ }
+    ensures { λ r. ⌜ r ≡ getD key at 0 ∷ getD key (at + 1) 0 ∷ getD key (at + 2) 0 ∷ getD key (at + 3) 0 ∷ [] ⌝ }
+{
+    [key[at], key[at + 1], key[at + 2], key[at + 3]]
+}
+
 pub(crate) fn first_key(key: [u8; 32]) -> [[u8; 4]; 4]
     ensures { λ r. ⌜ r ≡ stateOf (keyWord key) ⌝ }
 {
     [
-        [key[0], key[1], key[2], key[3]],
-        [key[4], key[5], key[6], key[7]],
-        [key[8], key[9], key[10], key[11]],
-        [key[12], key[13], key[14], key[15]],
+        key_word(key, 0),
+        key_word(key, 4),
+        key_word(key, 8),
+        key_word(key, 12),
     ]
 }
 
@@ -78,9 +87,9 @@ pub(crate) fn second_key(key: [u8; 32]) -> [[u8; 4]; 4]
     ensures { λ r. ⌜ r ≡ stateOf (λ c. keyWord key (4 + c)) ⌝ }
 {
     [
-        [key[16], key[17], key[18], key[19]],
-        [key[20], key[21], key[22], key[23]],
-        [key[24], key[25], key[26], key[27]],
-        [key[28], key[29], key[30], key[31]],
+        key_word(key, 16),
+        key_word(key, 20),
+        key_word(key, 24),
+        key_word(key, 28),
     ]
 }

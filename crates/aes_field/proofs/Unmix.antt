@@ -39,7 +39,7 @@ from-2 g = turn (g 3) (g 0) (g 1) (g 2) ∙ from-3 g
 from-1 : (g : ℕ → ℕ) → bitXor (bitXor (bitXor (g 1) (g 2)) (g 3)) (g 0) ≡ sum4 g
 from-1 g = turn (g 2) (g 3) (g 0) (g 1) ∙ from-2 g
 
-add4 : {a b c d a′ b′ c′ d′ : ℕ} → a ≡ a′ → b ≡ b′ → c ≡ c′ → d ≡ d′ → bitXor (bitXor (bitXor a b) c) d ≡ bitXor (bitXor (bitXor a′ b′) c′) d′
+pub add4 : {a b c d a′ b′ c′ d′ : ℕ} → a ≡ a′ → b ≡ b′ → c ≡ c′ → d ≡ d′ → bitXor (bitXor (bitXor a b) c) d ≡ bitXor (bitXor (bitXor a′ b′) c′) d′
 add4 p q r s = ap₂ bitXor (ap₂ bitXor (ap₂ bitXor p q) r) s
 
 -- of a byte in row d: itself where d is 0, and else nothing

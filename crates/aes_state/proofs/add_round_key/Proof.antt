@@ -1,8 +1,8 @@
--- `aes::state::add_round_key` meets its contract: by what each call ensures.
+-- `aes_state::add_round_key` meets its contract: by what each call ensures.
 -- Assumes nothing.
 use borrow.Author.Needs.{needs}
-use Rattle.aes.proofs.state.add_round_key.Statement.{statement}
-use Rattle.aes.proofs.state.add_round_key.Tie as tie
+use Rattle.aes_state.proofs.add_round_key.Statement.{statement}
+use Rattle.aes_state.proofs.add_round_key.Tie as tie
 
 array-copy-out-add-column : tie.Need-array-copy-out-add-column
 array-copy-out-add-column c = search needs
