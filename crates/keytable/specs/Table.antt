@@ -81,6 +81,10 @@ placeFrom i name (row ∷ rest) = when (named name row) (some i) (placeFrom (i +
 abbrev pub rowFor : List ℕ → List ℕ → Option (List ℕ)
 rowFor t name = lookup name (rowsOf t)
 
+-- the row that a record's name, or a reference, looks for
+abbrev pub dataRow : List ℕ → List ℕ → Option (List ℕ)
+dataRow t name = rowFor t name
+
 -- the place of a name's row, where the header keeps to the layout and the name to its maximum, and else none
 unfoldable pub placeOf : List ℕ → List ℕ → Option ℕ
 placeOf t name = when (headOk t && leb (length name) nameMax) (placeFrom headSize name (rowsOf t)) none
