@@ -19,7 +19,8 @@ use sizes::TABLE_FORMAT;
 ghost use mathlib.Core.Path.{_≡_};
 ghost use Rattle.keytable.specs.Row.{useOf, keyOf};
 ghost use Rattle.keytable.specs.Table.{headOk, rowAt};
-ghost use Rattle.keytable.specs.Calls.{tableSays, tableAnswer, foundSays, foundAnswer, findUse};
+ghost use Rattle.keytable.specs.Calls.{tableSays, tableAnswer, findUse};
+ghost use Rattle.keytable.specs.Find.{foundSays, foundAnswer};
 
 // What checking a table finds: the number of its rows.
 pub enum Table {
@@ -27,10 +28,12 @@ pub enum Table {
     Broken,
 }
 
-// What a lookup finds: the place of the name's row, for the crates above; it is never answered outside.
+// What a lookup finds: the place of the name's row, for the crates above; it is never answered outside. Nothing is number 6; Broken is number 1, of a
+// header that breaks its layout.
 pub enum Found {
     At(usize),
     Nothing,
+    Broken,
 }
 
 // Whether the header keeps to the layout, and the total to its count of rows.
@@ -62,12 +65,13 @@ pub fn check(t: &[u8]) -> Table
     Table::Rows(r)
 }
 
-// The place of the first row with this whole name. Nothing where there is none, where the header breaks its layout, and for a name of more than 32 bytes.
+// The place of the first row with this whole name, or Nothing where there is none, as for a name of more than 32 bytes. It is for callers that have
+// checked the table: of the layout it looks at the header alone.
 pub fn find(t: &[u8], name: &[u8]) -> Found
     ensures { λ f. ⌜ foundSays f ≡ foundAnswer (now (t .entry)) (now (name .entry)) ⌝ }
 {
     if !head_ok(t) {
-        return Found::Nothing;
+        return Found::Broken;
     }
     if name.len() > NAME_MAX {
         return Found::Nothing;

@@ -13,8 +13,8 @@ ghost use Prim.Native.Nat.{_≤_};
 ghost use lib.ListN.{length, drop};
 ghost use Rattle.octets.specs.Tests.{all};
 ghost use Rattle.keytable.specs.Row.{nameMax, rowOk};
-ghost use Rattle.keytable.specs.Table.{rowPlace, rowCount, rowsOf, distinct, placeFrom};
-ghost use Rattle.keytable.specs.Calls.{foundSays, placeSays};
+ghost use Rattle.keytable.specs.Table.{rowPlace, rowCount, rowsOf, distinct};
+ghost use Rattle.keytable.specs.Find.{foundSays, placeFrom};
 
 // Whether each row keeps to the layout.
 pub(crate) fn rows_ok(t: &[u8], r: usize) -> bool
@@ -34,7 +34,7 @@ pub(crate) fn rows_ok(t: &[u8], r: usize) -> bool
 // The place of the first row from number `from` on that has this name.
 pub(crate) fn find_from(t: &[u8], r: usize, from: usize, name: &[u8]) -> Found
     requires { ⌜ (length (now t) ≡ rowPlace r) × (r ≡ rowCount (now t)) × (from ≤ r) × (length (now name) ≤ nameMax) ⌝ }
-    ensures { λ f. ⌜ foundSays f ≡ placeSays (placeFrom (rowPlace from) (now (name .entry)) (drop from (rowsOf (now (t .entry))))) ⌝ }
+    ensures { λ f. ⌜ foundSays f ≡ foundSays (placeFrom (rowPlace from) (now (name .entry)) (drop from (rowsOf (now (t .entry))))) ⌝ }
 {
     let mut i = from;
     while i < r {

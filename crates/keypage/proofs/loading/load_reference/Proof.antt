@@ -24,10 +24,10 @@ found c =
 
 returns : tie.Need-returns
 returns c =
-    let at-find = c .before .before in
+    let at-find = c .before in
     let from = start at-find in
     let a = from .args in
-    reference-six _ (a .algorithm) (a .s .now) (a .out .now) (no-row _ _ _ (from .pre .0) (from .pre .1) (at-find .find .ensures) (c .enum-told .given .1))
+    reference-six _ (a .algorithm) (a .s .now) (a .out .now) (no-row _ _ (at-find .find .result) (from .pre .0) (from .pre .1) (at-find .find .ensures) (c .match .keys2))
 
 returns-2 : tie.Need-returns-2
 returns-2 c =
@@ -50,7 +50,6 @@ load-reference-spec =
     tie.close
     (tie.spec
     (λ c κs. search needs)
-    (λ c. search needs)
     (λ c. search needs)
     returns
     (λ c κs. search needs)

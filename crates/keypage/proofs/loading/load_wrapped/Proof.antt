@@ -54,12 +54,12 @@ found c =
 
 returns : tie.Need-returns
 returns c =
-    let at-find = c .before .before in
+    let at-find = c .before in
     let from = start (at-find .before) in
     let a = from .args in
     wrapped-six _ (a .algorithm) (a .s .now) (a .out .now)
     (ap (rowFor (a .table .now)) (sym (name-is (at-find .before)))
-    ∙ no-row _ _ _ (from .pre .0) (name-fits (at-find .before)) (at-find .find .ensures) (c .enum-told .given .1))
+    ∙ no-row _ _ (at-find .find .result) (from .pre .0) (name-fits (at-find .before)) (at-find .find .ensures) (c .match .keys2))
 
 returns-2 : tie.Need-returns-2
 returns-2 c =
@@ -89,7 +89,6 @@ load-wrapped-spec =
     (λ c κs. search needs)
     (λ c κs. search needs)
     (λ c κs. search needs)
-    (λ c. search needs)
     (λ c. search needs)
     returns
     (λ c κs. search needs)

@@ -11,7 +11,7 @@ use Rattle.keytable.specs.Row.{rowSize, nameAt, nameMax, nameLength, nam
 use Rattle.keytable.specs.Table.{rowPlace, rowsOf, absent, distinct}
 use Rattle.keytable.proofs.Accepted.{name-short-at}
 use Rattle.keytable.proofs.Lookup.{distinct-stop, distinct-turn, distinct-end}
-use Rattle.keytable.proofs.Calls.{at-present, nothing-absent}
+use Rattle.keytable.proofs.Places.{nothing-absent, else-present}
 use Rattle.keytable.proofs.rows.names_differ.Statement.{statement}
 use Rattle.keytable.proofs.rows.names_differ.Tie as tie
 
@@ -46,12 +46,12 @@ find-from-requires c κs = omega (arith, name-length (c .before))
 
 returns : tie.Need-returns Inv-loop μ-loop
 returns c =
-    let at-find = c .before .before in
+    let at-find = c .before in
     let at-loop = at-find .before .before .before .before .before .before in
     let t = at-loop .before .before .args .t .now in
     let i = at-loop .loop .i in
     let twice : absent (nameOf (partOf t (rowPlace i) rowSize)) (drop (i + 1) (rowsOf t)) ≡ false =
-    rw (← name-is (at-find .before)) (at-present _ _ _ _ (at-find .find-from .ensures) _ (c .enum-told2 .given .1)) in
+    rw (← name-is (at-find .before)) (else-present _ _ _ (at-find .find-from .result) (at-find .find-from .ensures) (c .match .keys2)) in
     sym (at-loop .loop .inv .1 ∙ distinct-stop t i (omega arith) twice)
 
 loop-again : tie.Need-loop-again Inv-loop μ-loop
@@ -84,7 +84,6 @@ names-differ-spec =
     part-requires-2
     (λ c. search needs)
     find-from-requires
-    (λ c. search needs)
     (λ c. search needs)
     returns
     (λ c. search needs)

@@ -96,13 +96,13 @@ name-fits c =
 
 returns-5 : tie.Need-returns-5
 returns-5 c =
-    let at-find = c .before .before in
+    let at-find = c .before in
     let at-part = at-find .before in
     let past = at-part .before in
     let is = is-read (known past) in
     let ok = table-good (checked (known past)) in
     open-six _ _ _ _ _ _ ok (is .layout) (is .mode-ok) (long (known past) false (le-ltb _ _ (past .before .if1 .left))) (roomy past)
-    (ap (rowFor _) (sym (name-is at-part)) ∙ no-row _ _ _ ok (name-fits at-part) (at-find .find .ensures) (c .enum-told3 .given .1))
+    (ap (rowFor _) (sym (name-is at-part)) ∙ no-row _ _ (at-find .find .result) ok (name-fits at-part) (at-find .find .ensures) (c .match3 .keys2))
 
 -- the row that was found is that of the record's name
 found : (c : tie.After-at) → let a = start (checked (known (c .before .before .before .before))) .args in
@@ -194,7 +194,6 @@ open-spec =
     returns-4
     (λ c κs. search needs)
     (λ c κs. search needs)
-    (λ c. search needs)
     (λ c. search needs)
     returns-5
     (λ c κs. search needs)
