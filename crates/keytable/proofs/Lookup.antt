@@ -8,17 +8,17 @@ use Prim.Native.Nat.{ℕ, zero, suc, _+_, _*_, _≤_, _<_}
 use native.Mathlib.Nat.{le-of-suc-le-suc, not-suc-le-zero}
 use native.Mathlib.Numerals.{add-one}
 use native.Mathlib.Omega.{arith}
-use borrow.Author.Tests.{eqb-true, eq-eqb, le-leb, lt-leb, leb-true, not-true}
+use borrow.Author.Tests.{eqb-true, eq-eqb, le-leb, lt-leb, not-true}
 use lib.Dec.{eqb, leb}
-use lib.ListN.{length, getD, take, drop, drop-of-length-le}
-use lib.Seq.{drop-cons, drop-drop, take-nil, drop-nil}
+use lib.ListN.{length, getD, drop, drop-of-length-le}
+use lib.Seq.{drop-cons, drop-drop}
 use Rattle.octets.specs.Same.{same}
 use Rattle.octets.specs.Lent.{when}
 use Rattle.octets.proofs.Tests.{and-left, and-right}
 use Rattle.octets.proofs.Same.{same-equal, same-refl}
 use Rattle.octets.specs.Tests.{all, partOf}
-use Rattle.keytable.specs.Row.{rowSize, nameMax, nameAt, keyAt, keySize, nameLength, nameOf, useOf, keyOf, named}
-use Rattle.keytable.specs.Table.{headSize, rowPlace, headOk, rows, rowsOf, rowCount, absent, distinct, holders, lookup, rowAt}
+use Rattle.keytable.specs.Row.{rowSize, nameMax, nameAt, nameLength, nameOf, named}
+use Rattle.keytable.specs.Table.{headSize, rowPlace, headOk, rows, rowsOf, rowCount, absent, distinct, holders, lookup, rowSizeAt, rowAt}
 use Rattle.keytable.specs.Find.{placeFrom, placeOf}
 use Rattle.keytable.specs.declared.Found.the-variants.{At, Nothing, Broken}
 use Rattle.octets.proofs.Tests.{all-at, length-part}
@@ -163,29 +163,16 @@ place-none at name (x ∷ xs) e = go (named name x) (place-none (at + rowSize) n
 
 -- ---- rowAt
 
-pub rowAt-within : (t : List ℕ) (p : ℕ) → p + rowSize ≤ length t → rowAt t p ≡ partOf t p rowSize
-unfolding rowAt
-rowAt-within t p h = rw (le-leb (p + rowSize) (length t) h)
+pub size-within : (t : List ℕ) (p : ℕ) → p + rowSize ≤ length t → rowSizeAt t p ≡ rowSize
+unfolding rowSizeAt
+size-within t p h = rw (le-leb (p + rowSize) (length t) h)
 
-pub rowAt-past : (t : List ℕ) (p : ℕ) → length t < p + rowSize → rowAt t p ≡ []
-unfolding rowAt
-rowAt-past t p h = rw (lt-leb (p + rowSize) (length t) h)
+pub size-past : (t : List ℕ) (p : ℕ) → length t < p + rowSize → rowSizeAt t p ≡ 0
+unfolding rowSizeAt
+size-past t p h = rw (lt-leb (p + rowSize) (length t) h)
 
--- so it has a row's length, or is empty
-pub rowAt-short : (t : List ℕ) (p : ℕ) → length (rowAt t p) < rowSize → rowAt t p ≡ []
-unfolding rowAt
-rowAt-short t p h = go (leb (p + rowSize) (length t)) refl h
-  where
-    go : (in-table : Bool) → leb (p + rowSize) (length t) ≡ in-table → length (when in-table (partOf t p rowSize) []) < rowSize → when in-table (partOf t p rowSize) [] ≡ []
-    go true e less = absurd (omega (arith, length-part t p rowSize (leb-true (p + rowSize) (length t) e)))
-    go false e less = refl
-
--- its use and its key where it is empty
-pub use-past : (row : List ℕ) → row ≡ [] → useOf row ≡ 0
-use-past row e = ap useOf e
-
-pub key-past : (row : List ℕ) → row ≡ [] → keyOf row ≡ row
-key-past row e = rw e (ap (take keySize) (drop-nil keyAt) ∙ take-nil keySize)
+rowAt-within : (t : List ℕ) (p : ℕ) → p + rowSize ≤ length t → rowAt t p ≡ partOf t p rowSize
+rowAt-within t p h = ap (partOf t p) (size-within t p h)
 
 -- no row of a list is broken
 place-whole : (at : ℕ) (name : List ℕ) (xs : List (List ℕ)) → placeFrom at name xs ≡ Broken → ⊥

@@ -9,6 +9,7 @@ use lib.Dec.{eqb, leb}
 use Rattle.octets.specs.BigEndian.{numberAt}
 use Rattle.octets.specs.Lent.{when}
 use Rattle.octets.specs.Tests.{every, all, partOf}
+use Rattle.octets.specs.Places.{Placed, partIn}
 use Rattle.keytable.specs.Row.{rowSize, nameOf, rowOk, named}
 
 -- "Header: 0-1 format 0001h; 2-3 row count r; 4-5 offset of the first row, 0008h; 6-7 row length, 0048h. Total exactly 8+72r"
@@ -82,5 +83,12 @@ abbrev pub dataRow : List ℕ → List ℕ → Option (List ℕ)
 dataRow t name = rowFor t name
 
 -- the row's bytes from a place, and none where they do not lie in the table
-unfoldable pub rowAt : List ℕ → ℕ → List ℕ
-rowAt t i = when (leb (i + rowSize) (length t)) (partOf t i rowSize) []
+unfoldable pub rowSizeAt : List ℕ → ℕ → ℕ
+rowSizeAt t i = when (leb (i + rowSize) (length t)) rowSize 0
+
+abbrev pub rowAt : List ℕ → ℕ → List ℕ
+rowAt t i = partOf t i (rowSizeAt t i)
+
+-- as the part of the table that they are
+abbrev pub rowIn : Placed → ℕ → Placed
+rowIn t i = partIn t i (rowSizeAt (t .bytes) i)

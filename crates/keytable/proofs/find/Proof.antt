@@ -25,7 +25,7 @@ returns-2 c = ap foundSays (sym (placeOf-long _ _ (head (c .before)) (c .if2 .ta
 find-from-requires : tie.Need-find-from-requires
 find-from-requires c κs =
     let total = head-total _ (head (c .before .before)) ∙ ap rowPlace (sym (c .read16 .ensures .0)) in
-    (total, c .read16 .ensures .0, omega arith, c .before .if2 .left)
+    (total, c .read16 .ensures .0, omega arith)
 
 returns-3 : tie.Need-returns-3
 returns-3 c =

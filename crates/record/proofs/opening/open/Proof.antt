@@ -13,6 +13,7 @@ use lib.ListN.{length}
 use types.Run.{OneOf}
 use denote.Enum.Declared.{tagOf, declared}
 use Rattle.octets.specs.Tests.{partOf}
+use Rattle.octets.proofs.Places.{its-bytes}
 use Rattle.keytable.specs.Row.{nameMax, keySize, useOf, keyOf}
 use Rattle.keytable.specs.Table.{tableOk, rowFor, rowAt}
 use Rattle.keytable.proofs.Calls.{rows-accepted, broken-refused}
@@ -133,7 +134,7 @@ open-by-requires c κs =
     let is = is-read (known past) in
     let a = start (checked (known past)) .args in (
       sym (ap headerSays (sym (known past .before .h .given .1)) ∙ known past .before .before .before .read .ensures),
-      ap length (at-key .key-at .ensures) ∙ found at .1,
+      ap length (its-bytes (at-key .key-at .ensures)) ∙ found at .1,
       past .before .if1 .left,
       past .if2 .left,
     )
@@ -161,7 +162,7 @@ returns-7 c =
     let a = start (checked (known (past done))) .args in
     let wrong =
     tag-wrong (authenticBy (keyOf (row done)) (a .r .now) (a .aad .now)) (plaintextBy (keyOf (row done)) (a .r .now)) (a .out .now) _ _
-    (rw (done .before .before .key-at .ensures) at (done .open-by .ensures)) (c .if4 .taken) in
+    (rw (its-bytes (done .before .before .key-at .ensures)) at (done .open-by .ensures)) (c .if4 .taken) in
     open-nine _ _ _ _ _ _ (table-good (checked (known (past done)))) (is .layout) (is .mode-ok) (long (known (past done)) false (le-ltb _ _ (past done .before .if1 .left))) (roomy (past done)) _ (found (at done) .0)
     (same-use done) (wrong .0)
     ∙ ap (λ (l : List ℕ). ((9, l), a .count .now)) (sym (wrong .1))
@@ -173,7 +174,7 @@ returns-8 c =
     let a = start (checked (known (past done))) .args in
     let right =
     tag-was-right (authenticBy (keyOf (row done)) (a .r .now) (a .aad .now)) (plaintextBy (keyOf (row done)) (a .r .now)) (a .out .now) _ _
-    (rw (done .before .before .key-at .ensures) at (done .open-by .ensures)) (c .if4 .left) in
+    (rw (its-bytes (done .before .before .key-at .ensures)) at (done .open-by .ensures)) (c .if4 .left) in
     open-zero _ _ _ _ _ _ (table-good (checked (known (past done)))) (is .layout) (is .mode-ok) (long (known (past done)) false (le-ltb _ _ (past done .before .if1 .left))) (roomy (past done)) _ (found (at done) .0)
     (same-use done) (right .0)
     ∙ ap₂ (λ (l : List ℕ) (n : ℕ). ((0, l), n)) (sym (right .1)) (sym (is .count-is))
