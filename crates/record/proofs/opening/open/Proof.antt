@@ -13,6 +13,7 @@ use lib.ListN.{length}
 use types.Run.{OneOf}
 use denote.Enum.Declared.{tagOf, declared}
 use Rattle.octets.specs.Tests.{partOf}
+use Rattle.octets.proofs.Places.{its-bytes}
 use Rattle.keytable.specs.Row.{nameMax, keySize, useOf, keyOf}
 use Rattle.keytable.specs.Table.{tableOk, rowFor, rowAt}
 use Rattle.keytable.proofs.Calls.{rows-accepted, broken-refused}
@@ -96,13 +97,13 @@ name-fits c =
 
 returns-5 : tie.Need-returns-5
 returns-5 c =
-    let at-find = c .before .before in
+    let at-find = c .before in
     let at-part = at-find .before in
     let past = at-part .before in
     let is = is-read (known past) in
     let ok = table-good (checked (known past)) in
     open-six _ _ _ _ _ _ ok (is .layout) (is .mode-ok) (long (known past) false (le-ltb _ _ (past .before .if1 .left))) (roomy past)
-    (ap (rowFor _) (sym (name-is at-part)) ∙ no-row _ _ _ ok (name-fits at-part) (at-find .find .ensures) (c .enum-told3 .given .1))
+    (ap (rowFor _) (sym (name-is at-part)) ∙ no-row _ _ (at-find .find .result) ok (name-fits at-part) (at-find .find .ensures) (c .match3 .keys2))
 
 -- the row that was found is that of the record's name
 found : (c : tie.After-at) → let a = start (checked (known (c .before .before .before .before))) .args in
@@ -133,7 +134,7 @@ open-by-requires c κs =
     let is = is-read (known past) in
     let a = start (checked (known past)) .args in (
       sym (ap headerSays (sym (known past .before .h .given .1)) ∙ known past .before .before .before .read .ensures),
-      ap length (at-key .key-at .ensures) ∙ found at .1,
+      ap length (its-bytes (at-key .key-at .ensures)) ∙ found at .1,
       past .before .if1 .left,
       past .if2 .left,
     )
@@ -161,7 +162,7 @@ returns-7 c =
     let a = start (checked (known (past done))) .args in
     let wrong =
     tag-wrong (authenticBy (keyOf (row done)) (a .r .now) (a .aad .now)) (plaintextBy (keyOf (row done)) (a .r .now)) (a .out .now) _ _
-    (rw (done .before .before .key-at .ensures) at (done .open-by .ensures)) (c .if4 .taken) in
+    (rw (its-bytes (done .before .before .key-at .ensures)) at (done .open-by .ensures)) (c .if4 .taken) in
     open-nine _ _ _ _ _ _ (table-good (checked (known (past done)))) (is .layout) (is .mode-ok) (long (known (past done)) false (le-ltb _ _ (past done .before .if1 .left))) (roomy (past done)) _ (found (at done) .0)
     (same-use done) (wrong .0)
     ∙ ap (λ (l : List ℕ). ((9, l), a .count .now)) (sym (wrong .1))
@@ -173,7 +174,7 @@ returns-8 c =
     let a = start (checked (known (past done))) .args in
     let right =
     tag-was-right (authenticBy (keyOf (row done)) (a .r .now) (a .aad .now)) (plaintextBy (keyOf (row done)) (a .r .now)) (a .out .now) _ _
-    (rw (done .before .before .key-at .ensures) at (done .open-by .ensures)) (c .if4 .left) in
+    (rw (its-bytes (done .before .before .key-at .ensures)) at (done .open-by .ensures)) (c .if4 .left) in
     open-zero _ _ _ _ _ _ (table-good (checked (known (past done)))) (is .layout) (is .mode-ok) (long (known (past done)) false (le-ltb _ _ (past done .before .if1 .left))) (roomy (past done)) _ (found (at done) .0)
     (same-use done) (right .0)
     ∙ ap₂ (λ (l : List ℕ) (n : ℕ). ((0, l), n)) (sym (right .1)) (sym (is .count-is))
@@ -194,7 +195,6 @@ open-spec =
     returns-4
     (λ c κs. search needs)
     (λ c κs. search needs)
-    (λ c. search needs)
     (λ c. search needs)
     returns-5
     (λ c κs. search needs)

@@ -57,11 +57,11 @@ returns-4 c =
 
 returns-5 : tie.Need-returns-5
 returns-5 c =
-    let roomy = c .before .before .before in
+    let roomy = c .before .before in
     let past = roomy .before in
     let ok = accepted (past .before .before .before) in
     ready-six _ _ _ _ _ _ _ ok (past .before .before .if1 .left) (short past) (le-ltb _ _ (roomy .if3 .left))
-    (no-row _ _ _ ok (small past .0) (c .before .before .find .ensures) (c .enum-told3 .given .1))
+    (no-row _ _ (c .before .find .result) ok (small past .0) (c .before .find .ensures) (c .match2 .keys2))
 
 -- past the lookup: the row, the tests before it, and the use
 module _ (c : tie.After-use-at) where
@@ -108,7 +108,6 @@ test-spec =
     add-if3-4
     returns-4
     (λ c κs. search needs)
-    (λ c. search needs)
     (λ c. search needs)
     returns-5
     (λ c κs. search needs)

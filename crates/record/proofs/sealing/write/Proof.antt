@@ -7,6 +7,7 @@ use Prim.Native.Nat.{ℕ}
 use lib.ListN.{length}
 use borrow.Author.Needs.{needs}
 use Rattle.octets.specs.Lent.{over}
+use Rattle.octets.proofs.Places.{its-bytes}
 use Rattle.keytable.specs.Table.{tableOk, rowFor, rowAt}
 use Rattle.keytable.proofs.Laws.{rowFor-good}
 use Rattle.record.specs.Seal.{recordOf, recordBy}
@@ -32,7 +33,7 @@ fill-requires c κs =
     let a = start at-use .args in
     let h = able at-use in
     let use-is = at-use .use-at .ensures in (
-      ap length (at-key .key-at .ensures) ∙ rowFor-good (a .table .now) (a .name .now) _ (h .accepted) (found at-use) .key-size,
+      ap length (its-bytes (at-key .key-at .ensures)) ∙ rowFor-good (a .table .now) (a .name .now) _ (h .accepted) (found at-use) .key-size,
       h .short,
       rw use-is (h .iv-long),
       h .little,
@@ -47,7 +48,7 @@ returns c =
     let at-use = at-key .before in
     let a = start at-use .args in
     done .fill .ensures
-    ∙ ap₂ (λ (u : ℕ) (key : List ℕ). over (recordOf u key (a .name .now) (a .iv .now) (a .aad .now) (a .plain .now)) (a .out .now)) (at-use .use-at .ensures) (at-key .key-at .ensures)
+    ∙ ap₂ (λ (u : ℕ) (key : List ℕ). over (recordOf u key (a .name .now) (a .iv .now) (a .aad .now) (a .plain .now)) (a .out .now)) (at-use .use-at .ensures) (its-bytes (at-key .key-at .ensures))
     ∙ ap (λ (o : Option (List ℕ)). over (recordBy o (a .name .now) (a .iv .now) (a .aad .now) (a .plain .now)) (a .out .now)) (sym (found at-use))
 
 pub write-spec : {M : Type 1} → statement M
