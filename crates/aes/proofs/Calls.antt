@@ -1,13 +1,13 @@
 -- The answers over lent bytes, for any cipher f.
 -- Assumes nothing.
-use mathlib.Core.Path.{_≡_}
+use mathlib.Core.Path.{_≡_, sym, _∙_}
 use mathlib.Core.Bool.{true, false}
 use mathlib.Core.List.{List}
 use Prim.Native.Nat.{ℕ}
 use lib.ListN.{length}
 use Rattle.octets.specs.Lent.{isNot, over}
 use Rattle.octets.proofs.Tests.{or-left, or-right}
-use Rattle.octets.proofs.Lent.{isNot-false}
+use Rattle.octets.proofs.Lent.{isNot-false, isNot-right, over-whole}
 use Rattle.aes.specs.State.{State}
 use Rattle.aes.specs.KeyExpansion.{schedule}
 use Rattle.aes.specs.Calls.{keySize, blockSize, wrongLengths, blockNumber, blockAnswer}
@@ -23,6 +23,10 @@ module _ (f : List State → List ℕ → List ℕ) (key block : List ℕ) where
   pub refused : wrongLengths key block ≡ true → blockAnswer f key block ≡ (2, block)
   unfolding blockAnswer blockNumber
   refused wrong = rw wrong
+
+  pub in-range : length key ≡ keySize → length block ≡ blockSize → length (f (schedule key) block) ≡ blockSize → blockAnswer f key block ≡ (0, f (schedule key) block)
+  unfolding blockAnswer blockNumber
+  in-range hk hb long = rw (isNot-right keySize key hk, isNot-right blockSize block hb, over-whole (f (schedule key) block) block (long ∙ sym hb))
 
   -- the code's copies of the key and of the block, and its result over the block
   pub done : (k b result after : List ℕ) (ks : List State) (r : ℕ) → wrongLengths key block ≡ false → k ≡ key → b ≡ block

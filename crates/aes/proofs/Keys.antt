@@ -15,7 +15,7 @@ use Rattle.octets.proofs.Xor.{xor-byte}
 use Rattle.aes_field.specs.Field.{xtime, sbox}
 use Rattle.aes_field.specs.Words.{Column, columnOf}
 use Rattle.aes_field.proofs.Linear.{xtime-byte}
-use Rattle.aes_field.proofs.Inverse.{sbox-byte}
+use Rattle.aes_field.proofs.Laws.{sbox-byte}
 use Rattle.aes_state.specs.Laws.{IsKey}
 use Rattle.aes.specs.State.{State, column, stateOf}
 use Rattle.aes.specs.Cipher.{subColumn, addColumn}
