@@ -20,9 +20,9 @@ module _ (key block : List ℕ) (right : wrongLengths key block ≡ false) where
   block-right = isNot-false blockSize block (or-right (isNot keySize key) (isNot blockSize block) right)
 
 module _ (f : List State → List ℕ → List ℕ) (key block : List ℕ) where
-  pub refused : wrongLengths key block ≡ true → blockAnswer f key block ≡ (2, block)
+  pub refused : (r : ℕ) (after : List ℕ) → wrongLengths key block ≡ true → (r ≡ 2) × (after ≡ block) → blockAnswer f key block ≡ (r, after)
   unfolding blockAnswer blockNumber
-  refused wrong = rw wrong
+  refused r after wrong given = rw (wrong, given .0, given .1)
 
   pub in-range : length key ≡ keySize → length block ≡ blockSize → length (f (schedule key) block) ≡ blockSize → blockAnswer f key block ≡ (0, f (schedule key) block)
   unfolding blockAnswer blockNumber
