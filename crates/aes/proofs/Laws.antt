@@ -1,6 +1,6 @@
 -- The laws of specs/Laws.antt.
 -- Assumes nothing.
-use mathlib.Core.Path.{_≡_, refl, ap, _∙_}
+use mathlib.Core.Path.{refl, ap}
 use lib.ListN.{length}
 use Rattle.octets.proofs.Unique.{unique}
 use Rattle.aes.specs.Cipher.{cipher}

@@ -1,6 +1,6 @@
 -- The laws of specs/Laws.antt. Each step is followed on the byte in row r of column c.
 -- Assumes nothing.
-use mathlib.Core.Path.{_≡_, refl, sym, ap, _∙_, subst⁻¹}
+use mathlib.Core.Path.{refl, sym, ap, _∙_, subst⁻¹}
 use Prim.Native.Nat.{ℕ, _+_, _-_, _*_, _/_, _%_}
 use lib.Bits.{bitXor}
 use lib.ListN.{getD}
