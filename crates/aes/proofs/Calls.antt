@@ -1,13 +1,13 @@
 -- The answers over lent bytes, for any cipher f.
 -- Assumes nothing.
-use mathlib.Core.Path.{_≡_}
+use mathlib.Core.Path.{_≡_, sym, _∙_}
 use mathlib.Core.Bool.{true, false}
 use mathlib.Core.List.{List}
 use Prim.Native.Nat.{ℕ}
 use lib.ListN.{length}
 use Rattle.octets.specs.Lent.{isNot, over}
 use Rattle.octets.proofs.Tests.{or-left, or-right}
-use Rattle.octets.proofs.Lent.{isNot-false}
+use Rattle.octets.proofs.Lent.{isNot-false, isNot-right, over-whole}
 use Rattle.aes.specs.State.{State}
 use Rattle.aes.specs.KeyExpansion.{schedule}
 use Rattle.aes.specs.Calls.{keySize, blockSize, wrongLengths, blockNumber, blockAnswer}
@@ -20,9 +20,13 @@ module _ (key block : List ℕ) (right : wrongLengths key block ≡ false) where
   block-right = isNot-false blockSize block (or-right (isNot keySize key) (isNot blockSize block) right)
 
 module _ (f : List State → List ℕ → List ℕ) (key block : List ℕ) where
-  pub refused : wrongLengths key block ≡ true → blockAnswer f key block ≡ (2, block)
+  pub refused : (r : ℕ) (after : List ℕ) → wrongLengths key block ≡ true → (r ≡ 2) × (after ≡ block) → blockAnswer f key block ≡ (r, after)
   unfolding blockAnswer blockNumber
-  refused wrong = rw wrong
+  refused r after wrong given = rw (wrong, given .0, given .1)
+
+  pub in-range : length key ≡ keySize → length block ≡ blockSize → length (f (schedule key) block) ≡ blockSize → blockAnswer f key block ≡ (0, f (schedule key) block)
+  unfolding blockAnswer blockNumber
+  in-range hk hb long = rw (isNot-right keySize key hk, isNot-right blockSize block hb, over-whole (f (schedule key) block) block (long ∙ sym hb))
 
   -- the code's copies of the key and of the block, and its result over the block
   pub done : (k b result after : List ℕ) (ks : List State) (r : ℕ) → wrongLengths key block ≡ false → k ≡ key → b ≡ block

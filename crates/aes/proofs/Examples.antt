@@ -33,11 +33,11 @@ otherKey =
     0x1f ∷ 0x35 ∷ 0x2c ∷ 0x07 ∷ 0x3b ∷ 0x61 ∷ 0x08 ∷ 0xd7 ∷ 0x2d ∷ 0x98 ∷ 0x10 ∷ 0xa3 ∷ 0x09 ∷ 0x14 ∷ 0xdf ∷ 0xf4 ∷ []
 
 -- appendix A.3: the first word that is made, the first after SubWord alone, and the last
-appendix-A3-8 : getD (words otherKey 52) 8 [] ≡ 0x9b ∷ 0xa3 ∷ 0x54 ∷ 0x11 ∷ []
+appendix-A3-8 : getD (words otherKey 1) 8 [] ≡ 0x9b ∷ 0xa3 ∷ 0x54 ∷ 0x11 ∷ []
 unfolding words temp power sbox inverse affine times xtime
 appendix-A3-8 = refl
 
-appendix-A3-12 : getD (words otherKey 52) 12 [] ≡ 0xa8 ∷ 0xb0 ∷ 0x9c ∷ 0x1a ∷ []
+appendix-A3-12 : getD (words otherKey 5) 12 [] ≡ 0xa8 ∷ 0xb0 ∷ 0x9c ∷ 0x1a ∷ []
 unfolding words temp power sbox inverse affine times xtime
 appendix-A3-12 = refl
 

@@ -6,7 +6,7 @@ use Prim.Native.Nat.{ℕ, zero, suc}
 use lib.ListN.{length, getD}
 use Rattle.octets.specs.Bytes.{Bytes}
 use Rattle.aes_field.specs.Field.{sbox, invSbox}
-use Rattle.aes_field.proofs.Inverse.{sbox-byte, invSbox-byte, invSbox-sbox, sbox-invSbox}
+use Rattle.aes_field.proofs.Laws.{sbox-byte, invSbox-byte, invSbox-sbox, sbox-invSbox}
 pub use Rattle.aes_state.specs.Laws.{IsState}
 use Rattle.aes_state.specs.Laws.{IsKey}
 use Rattle.aes_state.proofs.Grid.{grid-same}

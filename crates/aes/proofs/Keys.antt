@@ -1,6 +1,6 @@
 -- The schedule of a key of bytes holds bytes.
 -- Assumes nothing.
-use mathlib.Core.Path.{_≡_, subst⁻¹}
+use mathlib.Core.Path.{subst⁻¹}
 use mathlib.Core.Bool.{Bool, true, false}
 use mathlib.Core.List.{List, [], _∷_, _++_}
 use Prim.Native.Nat.{ℕ, zero, suc, _+_, _-_, _*_, _/_, _%_, _<_}
@@ -12,12 +12,12 @@ use Rattle.octets.specs.Bytes.{Bytes}
 use Rattle.octets.specs.Lent.{when}
 use Rattle.octets.proofs.Bytes.{bytes-nil, bytes-cons, bytes-values}
 use Rattle.octets.proofs.Xor.{xor-byte}
-use Rattle.aes_field.specs.Field.{xtime, sbox}
+use Rattle.aes_field.specs.Field.{sbox}
 use Rattle.aes_field.specs.Words.{Column, columnOf}
 use Rattle.aes_field.proofs.Linear.{xtime-byte}
-use Rattle.aes_field.proofs.Inverse.{sbox-byte}
+use Rattle.aes_field.proofs.Laws.{sbox-byte}
 use Rattle.aes_state.specs.Laws.{IsKey}
-use Rattle.aes.specs.State.{State, column, stateOf}
+use Rattle.aes.specs.State.{State, stateOf}
 use Rattle.aes.specs.Cipher.{subColumn, addColumn}
 use Rattle.aes.specs.KeyExpansion.{rotWord, power, rcon, temp, keyWord, words, roundKey, schedule}
 use Rattle.aes.specs.KeyExpansion.Inside.{schedule-is}

@@ -1,14 +1,19 @@
 -- The laws of specs/Laws.antt.
 -- Assumes nothing.
-use mathlib.Core.Path.{_≡_, refl, ap, _∙_}
+use mathlib.Core.Path.{refl, ap}
 use lib.ListN.{length}
-use Rattle.octets.proofs.Lent.{one-answer}
+use Rattle.octets.proofs.Unique.{unique}
+use Rattle.aes.specs.Cipher.{cipher}
 use Rattle.aes.specs.KeyExpansion.{schedule}
+use Rattle.aes.specs.InvCipher.{invCipher}
+use Rattle.aes.specs.Calls.{encryptBlock, decryptBlock}
 use Rattle.aes.specs.Cipher.Inside.{cipher-is}
 use Rattle.aes.specs.InvCipher.Inside.{invCipher-is}
-use Rattle.aes.specs.Laws.{CipherLength, InvCipherLength, CipherBytes, InvCipherBytes, InvCipherUndoes, CipherUndoes, EncryptBlockUnique, DecryptBlockUnique}
+use Rattle.aes.specs.Laws.{CipherLength, InvCipherLength, CipherBytes, InvCipherBytes, InvCipherUndoes, CipherUndoes, BlockTestsRise}
+use Rattle.aes.specs.Laws.{EncryptsInRange, DecryptsInRange, DecryptsEncrypted, EncryptsDecrypted, EncryptBlockUnique, DecryptBlockUnique}
 use Rattle.aes.proofs.Keys.{schedule-keys}
 use Rattle.aes.proofs.Invert as invert
+use Rattle.aes.proofs.Calls.{in-range}
 
 pub cipher-length : CipherLength
 cipher-length ks b = ap length (cipher-is ks b)
@@ -28,8 +33,27 @@ invCipher-cipher key b hk long hb = invert.invCipher-cipher (schedule key) (sche
 pub cipher-invCipher : CipherUndoes
 cipher-invCipher key b hk long hb = invert.cipher-invCipher (schedule key) (schedule-keys key hk) hb long
 
+-- ---- the calls
+
+pub block-tests-rise : BlockTestsRise
+block-tests-rise key block = refl
+
+pub encrypts-in-range : EncryptsInRange
+encrypts-in-range key block hk hb = in-range cipher key block hk hb (cipher-length (schedule key) block)
+
+pub decrypts-in-range : DecryptsInRange
+decrypts-in-range key block hk hb = in-range invCipher key block hk hb (invCipher-length (schedule key) block)
+
+pub decrypts-encrypted : DecryptsEncrypted
+decrypts-encrypted key block hk wk hb wb =
+    rw (encrypts-in-range key block hk hb, decrypts-in-range key _ hk (cipher-length (schedule key) block), invCipher-cipher key block wk hb wb)
+
+pub encrypts-decrypted : EncryptsDecrypted
+encrypts-decrypted key block hk wk hb wb =
+    rw (decrypts-in-range key block hk hb, encrypts-in-range key _ hk (invCipher-length (schedule key) block), cipher-invCipher key block wk hb wb)
+
 pub encrypt-block-unique : EncryptBlockUnique
-encrypt-block-unique key block a b p q = one-answer p q
+encrypt-block-unique key block = unique (encryptBlock key block)
 
 pub decrypt-block-unique : DecryptBlockUnique
-decrypt-block-unique key block a b p q = one-answer p q
+decrypt-block-unique key block = unique (decryptBlock key block)

@@ -2,14 +2,17 @@
 -- Assumes nothing.
 use mathlib.Core.Path.{_≡_}
 use Prim.Native.Nat.{ℕ}
+use mathlib.Core.Bool.{true}
 use mathlib.Core.List.{List}
 use lib.ListN.{length}
 use Rattle.octets.specs.Bytes.{Bytes}
+use Rattle.octets.specs.Lowest.{rises}
+use Rattle.octets.specs.Unique.{Unique}
 use Rattle.aes.specs.State.{State}
 use Rattle.aes.specs.Cipher.{cipher}
 use Rattle.aes.specs.KeyExpansion.{schedule}
 use Rattle.aes.specs.InvCipher.{invCipher}
-use Rattle.aes.specs.Calls.{blockSize, encryptBlock, decryptBlock}
+use Rattle.aes.specs.Calls.{keySize, blockSize, blockTests, encryptBlock, decryptBlock}
 
 -- a block is 16 bytes, whatever the round keys and the block they came from
 abbrev pub CipherLength : Type 0
@@ -32,9 +35,31 @@ InvCipherUndoes = (key b : List ℕ) → Bytes key → length b ≡ blockSize �
 abbrev pub CipherUndoes : Type 0
 CipherUndoes = (key b : List ℕ) → Bytes key → length b ≡ blockSize → Bytes b → cipher (schedule key) (invCipher (schedule key) b) ≡ b
 
--- for each input one number and one block: what meets a call's statement is equal
+-- the calls: the numbers of their tests rise
+abbrev pub BlockTestsRise : Type 0
+BlockTestsRise = (key block : List ℕ) → rises (blockTests key block) ≡ true
+
+-- with a key and a block of the right length the answer is 0, and the block is what the standard makes of it
+abbrev pub EncryptsInRange : Type 0
+EncryptsInRange = (key block : List ℕ) → length key ≡ keySize → length block ≡ blockSize → encryptBlock key block ≡ (0, cipher (schedule key) block)
+
+abbrev pub DecryptsInRange : Type 0
+DecryptsInRange = (key block : List ℕ) → length key ≡ keySize → length block ≡ blockSize → decryptBlock key block ≡ (0, invCipher (schedule key) block)
+
+-- what one call made of a block, the other makes the block again
+abbrev pub DecryptsEncrypted : Type 0
+DecryptsEncrypted =
+    (key block : List ℕ) → length key ≡ keySize → Bytes key → length block ≡ blockSize → Bytes block
+    → decryptBlock key (encryptBlock key block .1) ≡ (0, block)
+
+abbrev pub EncryptsDecrypted : Type 0
+EncryptsDecrypted =
+    (key block : List ℕ) → length key ≡ keySize → Bytes key → length block ≡ blockSize → Bytes block
+    → encryptBlock key (decryptBlock key block .1) ≡ (0, block)
+
+-- for each input one number and one block
 abbrev pub EncryptBlockUnique : Type 0
-EncryptBlockUnique = (key block : List ℕ) (a b : ℕ × List ℕ) → encryptBlock key block ≡ a → encryptBlock key block ≡ b → a ≡ b
+EncryptBlockUnique = (key block : List ℕ) → Unique (encryptBlock key block)
 
 abbrev pub DecryptBlockUnique : Type 0
-DecryptBlockUnique = (key block : List ℕ) (a b : ℕ × List ℕ) → decryptBlock key block ≡ a → decryptBlock key block ≡ b → a ≡ b
+DecryptBlockUnique = (key block : List ℕ) → Unique (decryptBlock key block)

@@ -38,18 +38,19 @@ fn inv_sub_bytes(t: &[u8; 256], s: [[u8; 4]; 4]) -> [[u8; 4]; 4]
     ]
 }
 
-fn inv_round(t: &[u8; 256], s: [[u8; 4]; 4], k: [[u8; 4]; 4]) -> [[u8; 4]; 4]
-    requires { ⌜ now t ≡ invSboxTable ⌝ }
-    ensures { λ r. ⌜ r ≡ invRound s k ⌝ }
-{
-    inv_mix_columns(add_round_key(inv_sub_bytes(t, inv_shift_rows(s)), k))
-}
-
 fn inv_last_round(t: &[u8; 256], s: [[u8; 4]; 4], k: [[u8; 4]; 4]) -> [[u8; 4]; 4]
     requires { ⌜ now t ≡ invSboxTable ⌝ }
     ensures { λ r. ⌜ r ≡ invLastRound s k ⌝ }
 {
     add_round_key(inv_sub_bytes(t, inv_shift_rows(s)), k)
+}
+
+// The same steps, and then InvMixColumns.
+fn inv_round(t: &[u8; 256], s: [[u8; 4]; 4], k: [[u8; 4]; 4]) -> [[u8; 4]; 4]
+    requires { ⌜ now t ≡ invSboxTable ⌝ }
+    ensures { λ r. ⌜ r ≡ invRound s k ⌝ }
+{
+    inv_mix_columns(inv_last_round(t, s, k))
 }
 
 // Rounds 13 to 1 undone, and then the first key.

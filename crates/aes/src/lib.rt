@@ -72,6 +72,13 @@ fn wrong_lengths(key: &[u8], block: &[u8]) -> bool
     (key.len() != 32) | (block.len() != 16)
 }
 
+// The block as it is, and 2.
+fn refuse(block: &mut [u8]) -> u8
+    ensures { λ r. ⌜ (r ≡ 2) × (now (block .exit) ≡ now (block .entry)) ⌝ }
+{
+    2
+}
+
 // The result over the block, and 0.
 fn give(block: &mut [u8], done: [u8; 16]) -> u8
     ensures { λ r. ⌜ (r ≡ 0) × (now (block .exit) ≡ over done (now (block .entry))) ⌝ }
@@ -85,7 +92,7 @@ pub fn encrypt_block(key: &[u8], block: &mut [u8]) -> u8
     ensures { λ r. ⌜ encryptBlock (now (key .entry)) (now (block .entry)) ≡ (r, now (block .exit)) ⌝ }
 {
     if wrong_lengths(key, block) {
-        return 2;
+        return refuse(block);
     }
     let done = encrypt(expand_key(key_of(key)), block_of(block));
     give(block, done)
@@ -95,7 +102,7 @@ pub fn decrypt_block(key: &[u8], block: &mut [u8]) -> u8
     ensures { λ r. ⌜ decryptBlock (now (key .entry)) (now (block .entry)) ≡ (r, now (block .exit)) ⌝ }
 {
     if wrong_lengths(key, block) {
-        return 2;
+        return refuse(block);
     }
     let done = decrypt(expand_key(key_of(key)), block_of(block));
     give(block, done)

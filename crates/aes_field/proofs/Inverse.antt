@@ -35,7 +35,7 @@ module _ (a : ℕ) (h : a < 256) where
   unfolding affine unaffine
   unaffine-affine = agree-at (λ x. unaffine (affine x)) (λ x. x) 256 tt a h
 
-  affine-unaffine : affine (unaffine a) ≡ a
+  pub affine-unaffine : affine (unaffine a) ≡ a
   unfolding affine unaffine
   affine-unaffine = agree-at (λ x. affine (unaffine x)) (λ x. x) 256 tt a h
 

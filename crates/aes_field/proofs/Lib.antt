@@ -3,3 +3,4 @@ pub mod Tables
 pub mod Linear
 pub mod Inverse
 pub mod Unmix
+pub mod Laws

@@ -1,12 +1,12 @@
 -- The field's product is linear in its first factor, on bytes.
 -- Assumes nothing.
-use mathlib.Core.Path.{_≡_, refl, sym, ap, ap₂, _∙_, subst}
+use mathlib.Core.Path.{_≡_, refl, sym, ap, ap₂, _∙_}
 use mathlib.Core.Bool.{Bool, true, false}
-use Prim.Native.Nat.{ℕ, zero, suc, _+_, _*_, _/_, _%_, _^_, _<_}
-use native.Mathlib.Nat.{mod-lt, zero-lt-suc, add-zero}
+use Prim.Native.Nat.{ℕ, zero, suc, _*_, _/_, _%_, _<_}
+use native.Mathlib.Nat.{add-zero}
 use native.Mathlib.Omega.{arith}
 use lib.Dec.{eqb, lit<}
-use lib.Bits.{bitXor, xor-shr, xor-mod, xor-block, xor-lt}
+use lib.Bits.{bitXor, xor-shr, xor-mod, xor-block}
 use Rattle.octets.specs.Lent.{when}
 use Rattle.octets.proofs.Xor.{xor-byte, xor-exchange}
 use Rattle.aes_field.specs.Field.{xtime, sumOfShifts, times}

@@ -24,7 +24,7 @@ abbrev pub productOfSquares : ℕ → ℕ → ℕ
 productOfSquares zero a = 1
 productOfSquares (suc n) a = let s = times a a in times s (productOfSquares n s)
 
--- 4.4: the multiplicative inverse, a^254, which has {00} for {00}. That a times it is {01} is `inverse-is` of proofs/Inverse.antt.
+-- 4.4: the multiplicative inverse, a^254, which has {00} for {00}. That a times it is {01} is `InverseIs` of specs/Laws.antt.
 unfoldable pub inverse : ℕ → ℕ
 inverse a = productOfSquares 7 a
 
@@ -39,7 +39,7 @@ byteOf f = f 0 + f 1 * 2 + f 2 * 4 + f 3 * 8 + f 4 * 16 + f 5 * 32 + f 6 * 64 + 
 unfoldable pub affine : ℕ → ℕ
 affine a = byteOf (λ i. (bit a i + bit a (i + 4) + bit a (i + 5) + bit a (i + 6) + bit a (i + 7) + bit 0x63 i) % 2)
 
--- 5.3.2: its inverse. That the two undo one another is `unaffine-affine` of proofs/Inverse.antt.
+-- 5.3.2: its inverse. That the two undo one another is stated in specs/Laws.antt.
 unfoldable pub unaffine : ℕ → ℕ
 unaffine a = byteOf (λ i. (bit a (i + 2) + bit a (i + 5) + bit a (i + 7) + bit 0x05 i) % 2)
 

@@ -1,7 +1,7 @@
 -- Lists of four, and states given by the byte in each row and column: equal where these are.
 -- Assumes nothing.
 use mathlib.Core.Path.{_≡_}
-use mathlib.Core.List.{List, [], _∷_}
+use mathlib.Core.List.{[], _∷_}
 use Prim.Native.Nat.{ℕ}
 use Rattle.octets.proofs.Values.{values-same}
 use Rattle.aes_field.specs.Words.{Column, columnOf}

@@ -1,6 +1,6 @@
 -- The laws of specs/Laws.antt. Each step is followed on the byte in row r of column c.
 -- Assumes nothing.
-use mathlib.Core.Path.{_≡_, refl, sym, ap, _∙_, subst⁻¹}
+use mathlib.Core.Path.{refl, sym, ap, _∙_, subst⁻¹}
 use Prim.Native.Nat.{ℕ, _+_, _-_, _*_, _/_, _%_}
 use lib.Bits.{bitXor}
 use lib.ListN.{getD}
@@ -11,7 +11,7 @@ use Rattle.octets.proofs.Xor.{xor-cancel, xor-byte}
 use Rattle.aes_field.specs.Field.{times}
 use Rattle.aes_field.specs.Words.{Column, columnOf, sum4, timesMatrix, mixRow, invMixRow}
 use Rattle.aes_field.proofs.Linear.{times-byte, sum4-byte}
-use Rattle.aes_field.proofs.Unmix.{inv-mix-mix, mix-inv-mix}
+use Rattle.aes_field.proofs.Laws.{inv-mix-mix, mix-inv-mix}
 use Rattle.aes_state.specs.State.{State, column, stateOf, stateFrom, bytesOf}
 use Rattle.aes_state.specs.Steps.{shiftRows, mixColumn, mixColumns, addRoundKey}
 use Rattle.aes_state.specs.InvSteps.{invShiftRows, invMixColumn, invMixColumns}

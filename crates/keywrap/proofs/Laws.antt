@@ -6,17 +6,18 @@ use mathlib.Core.List.{List}
 use Prim.Native.Nat.{ℕ, _≤_}
 use native.Mathlib.Omega.{arith}
 use borrow.Author.Tests.{eq-eqb, le-ltb}
-use lib.ListN.{length, take}
-use lib.Seq.{take-at}
+use lib.ListN.{length}
 use Rattle.octets.specs.Lent.{over}
-use Rattle.octets.proofs.Lent.{over-injective, over-fits, one-answer}
+use Rattle.octets.proofs.Lent.{isNot-right, take-over, over-injective}
+use Rattle.octets.proofs.Unique.{unique}
 use Rattle.aes.specs.KeyExpansion.{schedule}
 use Rattle.keywrap.specs.Wrap.{wrapped, startRight, keyOf}
-use Rattle.keywrap.specs.Calls.{unwrapAnswer}
-use Rattle.keywrap.specs.Laws.{WrapsTo, UnwrapsTo, UnwrapsExactly, OneKey, ElseNine, WrappedLength, WrappedBytes, WrapUnique, UnwrapUnique}
+use Rattle.keywrap.specs.Calls.{wrapAnswer, unwrapAnswer}
+use Rattle.keywrap.specs.Laws.{WrapsTo, UnwrapsTo, UnwrapsExactly, OneKey, ElseNine, WrappedLength, WrappedBytes}
+use Rattle.keywrap.specs.Laws.{WrapTestsRise, UnwrapTestsRise, WrapsInRange, UnwrapsWrapped, WrapUnique, UnwrapUnique}
 use Rattle.keywrap.proofs.Parts.{length-joined, bytes-joined}
 use Rattle.keywrap.proofs.Inverse.{wrapSteps-formed, wrapSteps-good}
-use Rattle.keywrap.proofs.Calls.{unwrap-start, unwrap-key}
+use Rattle.keywrap.proofs.Calls.{wrap-done, unwrap-start, unwrap-key}
 use Rattle.keywrap.proofs.RoundTrip.{begin-formed, begin-good, keyOf-of, startRight-of, keyOf-size, key-wraps}
 
 -- ---- wrapped bytes
@@ -70,10 +71,30 @@ else-nine kek w out size hk long hw room none = answers-nine kek w out size long
     by true start = absurd (none (keyOf kek w) (key-wraps kek hk w long hw start))
     by false wrong = wrong
 
+-- ---- the calls
+
+pub wrap-tests-rise : WrapTestsRise
+wrap-tests-rise kek key room = refl
+
+pub unwrap-tests-rise : UnwrapTestsRise
+unwrap-tests-rise kek w room = refl
+
+pub wraps-in-range : WrapsInRange
+wraps-in-range kek key out size long room =
+    wrap-done kek key out (wrapped kek key) _ 0 (rw (isNot-right 32 kek size, isNot-right 32 key long)) (le-ltb _ 40 room) refl (refl, refl)
+
+pub unwraps-wrapped : UnwrapsWrapped
+unwraps-wrapped kek key out room size hk long h fits space =
+    rw (wraps-in-range kek key out size long fits, take-over (wrapped kek key) out 40 (wrapped-length kek key) fits)
+    (unwraps-exactly kek (wrapped kek key) room key size hk (wrapped-length kek key) (wrapped-bytes kek key hk h) space .1 wraps .answers)
+  where
+    wraps : WrapsTo kek key (wrapped kek key)
+    wraps = record { size = long; bytes = h; wraps = refl }
+
 -- ---- one answer
 
 pub wrap-unique : WrapUnique
-wrap-unique kek key out a b p q = one-answer p q
+wrap-unique kek key out = unique (wrapAnswer kek key out)
 
 pub unwrap-unique : UnwrapUnique
-unwrap-unique kek w out a b p q = one-answer p q
+unwrap-unique kek w out = unique (unwrapAnswer kek w out)

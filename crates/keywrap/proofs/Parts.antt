@@ -3,7 +3,7 @@
 use mathlib.Core.Path.{_≡_, refl, sym, ap, ap₂, _∙_}
 use mathlib.Core.List.{List, [], _∷_, _++_}
 use Prim.Native.Nat.{ℕ, zero, suc, _+_, _*_, _/_, _%_, _<_}
-use native.Mathlib.Nat.{add-suc, le-of-suc-le-suc, not-suc-le-zero, mod-lt, div-add-mod'}
+use native.Mathlib.Nat.{le-of-suc-le-suc, not-suc-le-zero, mod-lt, div-add-mod'}
 use native.Mathlib.Numerals.{add-one}
 use native.Mathlib.Omega.{arith}
 use lib.Dec.{lit<}
@@ -16,7 +16,7 @@ use denote.Plain.{UInt}
 use denote.Array.{Array, each}
 use Rattle.octets.specs.Values.{values, bytesAt}
 use Rattle.octets.specs.Bytes.{Bytes}
-use Rattle.octets.proofs.Values.{cons-equal, length-values, getD-values, values-later, values-same, values-list, bytesAt-part}
+use Rattle.octets.proofs.Values.{cons-equal, length-values, getD-values, values-later, values-from, values-same, values-list, bytesAt-part}
 use Rattle.octets.proofs.Bytes.{bytes-nil, bytes-append, bytes-values}
 use Rattle.keywrap.specs.Wrap.{Register, parts, joined}
 
@@ -86,15 +86,11 @@ parts-eight n s = each-values _ 0 n (λ i. length-values (λ k. getD s k 0) (8 *
 pub parts-bytes : (n : ℕ) {s : List ℕ} → Bytes s → Each Bytes (parts n s)
 parts-bytes n {s} h = each-values _ 0 n (λ i. bytes-values (λ k. getD s k 0) (8 * i) 8 (h .byte))
 
-values-shift : {A : Type 0} (f : ℕ → A) (m i n : ℕ) → values f (m + i) n ≡ values (λ k. f (m + k)) i n
-values-shift f m i zero = refl
-values-shift f m i (suc n) = cons-equal refl (rw (← add-suc m i) (values-shift f m (suc i) n))
-
 -- past a first part the places count from eight on
 bytesAt-past : (p s : List ℕ) (i : ℕ) → Eight p → bytesAt 8 (p ++ s) (8 * suc i) ≡ bytesAt 8 s (8 * i)
 bytesAt-past p s i e =
     ap (bytesAt 8 (p ++ s)) next
-    ∙ values-shift (λ k. getD (p ++ s) k 0) (length p) (8 * i) 8
+    ∙ values-from (λ k. getD (p ++ s) k 0) (length p) (8 * i) 8
     ∙ values-same _ (λ k. getD s k 0) (8 * i) 8 (λ k lo hi. getD-append-add p s k 0)
   where
     next : 8 * suc i ≡ length p + 8 * i

@@ -2,7 +2,7 @@
 -- Assumes nothing.
 use mathlib.Core.Path.{_≡_, ap, _∙_}
 use mathlib.Core.List.{List, [], _∷_, _++_}
-use Prim.Native.Nat.{ℕ, zero, suc, _+_, _-_, _<_}
+use Prim.Native.Nat.{ℕ, suc, _+_, _-_, _<_}
 use native.Mathlib.Numerals.{add-one}
 use native.Mathlib.Omega.{arith}
 use lib.ListN.{length, getD, set, take, drop, length-drop}
@@ -65,17 +65,14 @@ unwrapped-made kek w ks r s keys starts steps = steps ∙ rw (starts, keys)
 
 -- ---- the loops
 
-module _ (ks : List State) (t : ℕ) where
-  pub wrapSteps-turn : (r s next : Register) → s ≡ wrapSteps ks t r → next ≡ wrapStep ks (t + 1) s → next ≡ wrapSteps ks (t + 1) r
-  unfolding wrapSteps
-  wrapSteps-turn r s next before made = rw (made, before, add-one)
+pub wrapSteps-turn : (ks : List State) (t : ℕ) (r s next : Register) → s ≡ wrapSteps ks t r → next ≡ wrapStep ks (t + 1) s → next ≡ wrapSteps ks (t + 1) r
+unfolding wrapSteps
+wrapSteps-turn ks t r s next before made = rw (made, before, add-one)
 
-  pub unwrapSteps-turn : (s next : Register) → 0 < t → next ≡ unwrapStep ks t s → unwrapSteps ks (t - 1) next ≡ unwrapSteps ks t s
-  unfolding unwrapSteps
-  unwrapSteps-turn s next left made = rw made (go t left)
-    where
-      go : (t : ℕ) → 0 < t → unwrapSteps ks (t - 1) (unwrapStep ks t s) ≡ unwrapSteps ks t s
-      go zero h = absurd (omega arith)
-      go (suc n) h =
-          let less : suc n - 1 ≡ n = omega arith in
-          rw less
+-- n steps are done, and t is the next
+pub unwrapSteps-turn : (ks : List State) (n t : ℕ) (s next : Register) → n < 24 → t ≡ 24 - n → next ≡ unwrapStep ks t s
+    → unwrapSteps ks (24 - (n + 1)) next ≡ unwrapSteps ks (24 - n) s
+unfolding unwrapSteps
+unwrapSteps-turn ks n t s next h place made =
+    let more : 24 - n ≡ suc (24 - (n + 1)) = omega arith in
+    rw (made, place, more)

@@ -6,7 +6,7 @@ use aes::decrypt;
 use aes::encrypt;
 use octets::big_endian::bytes64;
 ghost use mathlib.Core.Path.{_≡_};
-ghost use Prim.Native.Nat.{_≤_, _<_};
+ghost use Prim.Native.Nat.{_-_, _≤_, _<_};
 ghost use Rattle.keywrap.specs.Wrap.{partAt, wrapStep, wrapSteps, unwrapStep, unwrapSteps};
 
 // The part that step t works on.
@@ -59,15 +59,23 @@ pub(crate) fn wrap_steps(ks: [[[u8; 4]; 4]; 15], r: [[u8; 8]; 5]) -> [[u8; 8]; 5
     s
 }
 
+// The step of unwrapping that follows n others: they go from 24 down.
+fn step_after(n: usize) -> usize
+    requires { ⌜ n < 24 ⌝ }
+    ensures { λ r. ⌜ (r ≡ 24 - n) × (1 ≤ r) ⌝ }
+{
+    24 - n
+}
+
 pub(crate) fn unwrap_steps(ks: [[[u8; 4]; 4]; 15], r: [[u8; 8]; 5]) -> [[u8; 8]; 5]
     ensures { λ s. ⌜ s ≡ unwrapSteps ks 24 r ⌝ }
 {
     let mut s = r;
-    let mut t: usize = 24;
-    while t > 0 {
-        let next = unwrap_step(ks, t, s);
+    let mut n: usize = 0;
+    while n < 24 {
+        let next = unwrap_step(ks, step_after(n), s);
         s = next;
-        t -= 1;
+        n += 1;
     }
     s
 }

@@ -25,7 +25,10 @@ right : (c : tie.Else1) → wrongLengths (key c) (block c) ≡ false
 right c = sym (c .before .wrong-lengths .ensures) ∙ c .if1 .left
 
 returns : tie.Need-returns
-returns c = refused invCipher _ _ (sym (c .before .wrong-lengths .ensures) ∙ c .if1 .taken)
+returns c =
+    let given = c .before .before in
+    let tested = given .before .before in
+    refused invCipher _ _ _ _ (sym (tested .before .wrong-lengths .ensures) ∙ tested .if1 .taken) (given .refuse .ensures)
 
 key-of-requires : tie.Need-key-of-requires
 key-of-requires c κs = key-right (key c) (block c) (right c)
@@ -49,6 +52,7 @@ pub decrypt-block-spec : {M : Type 1} → statement M
 decrypt-block-spec =
     tie.close
     (tie.spec
+    (λ c κs. search needs)
     (λ c κs. search needs)
     (λ c. search needs)
     returns
