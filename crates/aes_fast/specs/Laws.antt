@@ -1,23 +1,25 @@
 -- What a call of the fast way says, and what it promises to the crates above it, as statements; proofs/Laws.antt proves each.
 -- Assumes nothing.
 use mathlib.Core.Path.{_≡_}
-use Prim.Native.Nat.{ℕ, _^_, _<_}
+use Prim.Native.Nat.{ℕ, _+_, _^_, _≤_, _<_}
 use mathlib.Core.List.{List}
 use lib.ListN.{length}
 use Rattle.octets.specs.Bytes.{Bytes}
+use Rattle.octets.specs.Tests.{partOf}
 use Rattle.aes.specs.State.{State}
 use Rattle.aes.specs.Cipher.{cipher}
 use Rattle.aes.specs.KeyExpansion.{schedule}
 use Rattle.aes_fast.specs.ByTables.{Tables, cipherBy}
 use Rattle.aes_fast.specs.Right.{roundTables, Right, Ready}
-use Rattle.aes_fast.specs.Halves.{halvesBlock}
+use Rattle.aes_fast.specs.Halves.{halvesBlock, blockAt}
 use Rattle.aes_fast.specs.Start.{withLast, startBy, cipherFrom}
 use Rattle.aes_fast.specs.declared.halves.Halves.{Halves}
 
--- r is the block b ciphered: by the lent tables and round keys, whatever they are, and so by FIPS 197 where the tables are the right ones and the keys are bytes
-pub record Ciphered (t : Tables) (ks : List State) (b r : List ℕ) : Type 0 where
-  pub by-tables : r ≡ cipherBy t ks b
-  pub by-cipher : Ready t ks → r ≡ cipher ks b
+-- r is what `make` makes with the block cipher: by the lent tables and round keys, whatever they are, and so by FIPS 197 where the tables are the right
+-- ones and the keys are bytes
+pub record Ciphered (t : Tables) (ks : List State) (make : (List ℕ → List ℕ) → List ℕ) (r : List ℕ) : Type 0 where
+  pub by-tables : r ≡ make (cipherBy t ks)
+  pub by-cipher : Ready t ks → r ≡ make (cipher ks)
 
 -- the tables that are made, and the schedule of a key, are ready
 abbrev pub MadeReady : Type 0
@@ -29,7 +31,7 @@ CipherByRight = (t : Tables) (key b : List ℕ) → Right t → Bytes key → By
 
 -- what meets a call's statement is equal, whatever the tables
 abbrev pub CipheredUnique : Type 0
-CipheredUnique = (t : Tables) (ks : List State) (b r r′ : List ℕ) → Ciphered t ks b r → Ciphered t ks b r′ → r ≡ r′
+CipheredUnique = (t : Tables) (ks : List State) (make : (List ℕ → List ℕ) → List ℕ) (r r′ : List ℕ) → Ciphered t ks make r → Ciphered t ks make r′ → r ≡ r′
 
 -- with ready tables and keys it is the cipher
 abbrev pub ReadyCipher : Type 0
@@ -47,6 +49,10 @@ HalvesLength = (h : Halves) → length (halvesBlock h) ≡ 16
 
 abbrev pub HalvesBytes : Type 0
 HalvesBytes = (h : Halves) → Bytes (halvesBlock h)
+
+-- the block where one lies in the string
+abbrev pub BlockAtWhole : Type 0
+BlockAtWhole = (s : List ℕ) (i : ℕ) → i + 16 ≤ length s → blockAt s i ≡ partOf s i 16
 
 -- one block is one pair of words
 abbrev pub HalvesUnique : Type 0
