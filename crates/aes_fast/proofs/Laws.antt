@@ -5,7 +5,7 @@ use Rattle.octets.proofs.Lent.{one-answer}
 use Rattle.aes.specs.KeyExpansion.{schedule}
 use Rattle.aes.proofs.Keys.{schedule-keys}
 use Rattle.aes_fast.specs.Right.Inside.{is-right}
-use Rattle.aes_fast.specs.Laws.{MadeReady, CipherByRight, CipheredUnique, ReadyCipher, FromStart, HalvesLength, HalvesBytes, BlockAtWhole, HalvesUnique}
+use Rattle.aes_fast.specs.Laws.{MadeReady, CipherByRight, CipheredUnique, CipherByLength, ReadyBytes, ReadyCipher, FromStart, HalvesLength, HalvesBytes, BlockAtWhole, HalvesUnique}
 use Rattle.aes_fast.proofs.Cipher as cipher
 use Rattle.aes_fast.proofs.Restored as restored
 use Rattle.aes_fast.proofs.Starts as starts
@@ -19,6 +19,12 @@ cipherBy-right t key b right hk hb = cipher.cipherBy-right t (schedule key) (sch
 
 pub ciphered-unique : CipheredUnique
 ciphered-unique t ks make r r′ p q = one-answer (sym (p .by-tables)) (sym (q .by-tables))
+
+pub cipherBy-length : CipherByLength
+cipherBy-length = restored.length-cipherBy
+
+pub ready-bytes : ReadyBytes
+ready-bytes t ks b ready = restored.bytes-cipherBy t ks b (ready .keys 14)
 
 pub ready-cipher : ReadyCipher
 ready-cipher t ks b ready hb sixteen = cipher.ready-cipher t ks ready hb

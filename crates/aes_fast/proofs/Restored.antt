@@ -6,6 +6,7 @@ use native.Mathlib.Nat.{mod-lt}
 use native.Mathlib.Omega.{arith}
 use lib.Dec.{lit<}
 use lib.ListN.{length, getD}
+use mathlib.Core.List.{List, []}
 use Rattle.octets.specs.Bytes.{Bytes}
 use Rattle.octets.proofs.Bytes.{bytes-nil, bytes-cons, bytes-append}
 use Rattle.octets.proofs.Xor.{xor-byte}
@@ -13,8 +14,8 @@ use lib.Bits.{bitXor}
 use Rattle.aes_field.specs.Words.{Column}
 use Rattle.aes.specs.State.{State, column, stateFrom}
 use Rattle.aes.specs.Cipher.{addColumn, addRoundKey}
-use Rattle.aes_fast.specs.ByTables.{Tables, columnFrom, mixedBy}
-use Rattle.aes_fast.specs.ByTables.Inside.{columnFrom-is}
+use Rattle.aes_fast.specs.ByTables.{Tables, columnFrom, entryAt, mixedBy, lastColumnBy, lastRoundBy, cipherBy}
+use Rattle.aes_fast.specs.ByTables.Inside.{columnFrom-is, cipherBy-is}
 use Rattle.aes_fast.specs.Right.{wordFrom}
 use Rattle.aes_fast.specs.Halves.{columnsOf, halvesBlock, wordBytes, halvesFrom}
 use Rattle.aes_fast.specs.Halves.Inside.{columnsOf-is, halvesBlock-is}
@@ -70,6 +71,24 @@ pub bytes-mixedBy : (t : Tables) (a b c d : ℕ) (k : Column) → Bytes k → By
 bytes-mixedBy t a b c d k hk =
     bytes-addColumn
     (bytes-addColumn (bytes-addColumn (bytes-addColumn (bytes-columnFrom _) (bytes-columnFrom _)) (bytes-columnFrom _)) (bytes-columnFrom _)) hk
+
+bytes-lastColumnBy : (t : Tables) (a b c d : ℕ) (k : Column) → Bytes k → Bytes (lastColumnBy t a b c d k)
+bytes-lastColumnBy t a b c d k hk =
+    let row : (n : ℕ) → getD (entryAt t 0 n) 1 0 < 256 = λ n. bytes-columnFrom (getD (getD t 0 []) n 0) .byte 1 in
+    bytes-addColumn (bytes-cons (row a) (bytes-cons (row b) (bytes-cons (row c) (bytes-cons (row d) bytes-nil)))) hk
+
+module _ (t : Tables) (ks : List State) (b : List ℕ) where
+  pub length-cipherBy : length (cipherBy t ks b) ≡ 16
+  unfolding lastRoundBy
+  length-cipherBy = ap length (cipherBy-is t ks b)
+
+  pub bytes-cipherBy : ((c : ℕ) → Bytes (column (getD ks 14 []) c)) → Bytes (cipherBy t ks b)
+  unfolding lastRoundBy
+  bytes-cipherBy keys =
+      rw (cipherBy-is t ks b)
+      (bytes-append
+      (bytes-append (bytes-append (bytes-lastColumnBy t _ _ _ _ _ (keys 0)) (bytes-lastColumnBy t _ _ _ _ _ (keys 1))) (bytes-lastColumnBy t _ _ _ _ _ (keys 2)))
+      (bytes-lastColumnBy t _ _ _ _ _ (keys 3)))
 
 -- ---- back to words of bytes
 

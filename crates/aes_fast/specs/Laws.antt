@@ -33,6 +33,13 @@ CipherByRight = (t : Tables) (key b : List ℕ) → Right t → Bytes key → By
 abbrev pub CipheredUnique : Type 0
 CipheredUnique = (t : Tables) (ks : List State) (make : (List ℕ → List ℕ) → List ℕ) (r r′ : List ℕ) → Ciphered t ks make r → Ciphered t ks make r′ → r ≡ r′
 
+-- a block is 16 bytes, whatever the tables and the round keys, and bytes under round keys of bytes
+abbrev pub CipherByLength : Type 0
+CipherByLength = (t : Tables) (ks : List State) (b : List ℕ) → length (cipherBy t ks b) ≡ 16
+
+abbrev pub ReadyBytes : Type 0
+ReadyBytes = (t : Tables) (ks : List State) (b : List ℕ) → Ready t ks → Bytes (cipherBy t ks b)
+
 -- with ready tables and keys it is the cipher
 abbrev pub ReadyCipher : Type 0
 ReadyCipher = (t : Tables) (ks : List State) (b : List ℕ) → Ready t ks → Bytes b → length b ≡ 16 → cipherBy t ks b ≡ cipher ks b
