@@ -1,7 +1,7 @@
 -- The laws of specs/Laws.antt.
 -- Assumes nothing.
-use mathlib.Core.Path.{sym, _∙_}
-use Rattle.octets.proofs.Lent.{one-answer}
+use mathlib.Core.Path.{_∙_}
+use Rattle.octets.proofs.Unique.{unique}
 use Rattle.aes.specs.KeyExpansion.{schedule}
 use Rattle.aes.proofs.Keys.{schedule-keys}
 use Rattle.aes_fast.specs.Right.Inside.{is-right}
@@ -18,7 +18,7 @@ pub cipherBy-right : CipherByRight
 cipherBy-right t key b right hk hb = cipher.cipherBy-right t (schedule key) (schedule-keys key hk) right b hb
 
 pub ciphered-unique : CipheredUnique
-ciphered-unique t ks make r r′ p q = one-answer (sym (p .by-tables)) (sym (q .by-tables))
+ciphered-unique t ks make = unique _
 
 pub cipherBy-length : CipherByLength
 cipherBy-length = restored.length-cipherBy

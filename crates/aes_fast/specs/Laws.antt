@@ -6,6 +6,7 @@ use mathlib.Core.List.{List}
 use lib.ListN.{length}
 use Rattle.octets.specs.Bytes.{Bytes}
 use Rattle.octets.specs.Tests.{partOf}
+use Rattle.octets.specs.Unique.{Unique}
 use Rattle.aes.specs.State.{State}
 use Rattle.aes.specs.Cipher.{cipher}
 use Rattle.aes.specs.KeyExpansion.{schedule}
@@ -29,9 +30,9 @@ MadeReady = (t : Tables) (ks : List State) (key : List ℕ) → t ≡ roundTable
 abbrev pub CipherByRight : Type 0
 CipherByRight = (t : Tables) (key b : List ℕ) → Right t → Bytes key → Bytes b → cipherBy t (schedule key) b ≡ cipher (schedule key) b
 
--- what meets a call's statement is equal, whatever the tables
+-- one result meets a call's statement, by `by-tables` alone and so whatever the tables
 abbrev pub CipheredUnique : Type 0
-CipheredUnique = (t : Tables) (ks : List State) (make : (List ℕ → List ℕ) → List ℕ) (r r′ : List ℕ) → Ciphered t ks make r → Ciphered t ks make r′ → r ≡ r′
+CipheredUnique = (t : Tables) (ks : List State) (make : (List ℕ → List ℕ) → List ℕ) → Unique (make (cipherBy t ks))
 
 -- a block is 16 bytes, whatever the tables and the round keys, and bytes under round keys of bytes
 abbrev pub CipherByLength : Type 0
@@ -61,6 +62,6 @@ HalvesBytes = (h : Halves) → Bytes (halvesBlock h)
 abbrev pub BlockAtWhole : Type 0
 BlockAtWhole = (s : List ℕ) (i : ℕ) → i + 16 ≤ length s → blockAt s i ≡ partOf s i 16
 
--- one block is one pair of words
+-- one block is one pair of words of 64 bits, as a call's result is
 abbrev pub HalvesUnique : Type 0
 HalvesUnique = (g h : Halves) → g .first < 2 ^ 64 → g .second < 2 ^ 64 → h .first < 2 ^ 64 → h .second < 2 ^ 64 → halvesBlock g ≡ halvesBlock h → g ≡ h
