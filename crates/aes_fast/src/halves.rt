@@ -1,7 +1,6 @@
 // A block, and a state, as two words of 64 bits: columns 0 and 1, and columns 2 and 3, the first byte lowest.
 use crate::words::word;
 use crate::words::word_at;
-use crate::words::word_of;
 use octets::strings::put;
 ghost use mathlib.Core.Path.{_≡_};
 ghost use mathlib.Core.List.{[], _∷_, _++_};
@@ -46,27 +45,6 @@ pub(crate) fn halves_of(s: [[u8; 4]; 4]) -> Halves
     from_columns(word(s[0]), word(s[1]), word(s[2]), word(s[3]))
 }
 
-pub fn halves_from(b: [u8; 16]) -> Halves
-    ensures { λ r. ⌜ halvesBlock r ≡ b ⌝ }
-{
-    from_columns(
-        word_of(b[0], b[1], b[2], b[3]),
-        word_of(b[4], b[5], b[6], b[7]),
-        word_of(b[8], b[9], b[10], b[11]),
-        word_of(b[12], b[13], b[14], b[15]),
-    )
-}
-
-// Whether a block lies in n bytes from place i on.
-fn lies_at(n: usize, i: usize) -> bool
-    ensures { λ r. ⌜ r ≡ leb (i + 16) n ⌝ }
-{
-    if n < 16 {
-        return false;
-    }
-    i <= n - 16
-}
-
 fn whole_at(s: &[u8], i: usize) -> Halves
     requires { ⌜ i + 16 ≤ length (now s) ⌝ }
     ensures { λ r. ⌜ halvesBlock r ≡ partOf (now (s .entry)) i 16 ⌝ }
@@ -77,6 +55,22 @@ fn whole_at(s: &[u8], i: usize) -> Halves
         word_at(s, i + 8),
         word_at(s, i + 12),
     )
+}
+
+pub fn halves_from(b: [u8; 16]) -> Halves
+    ensures { λ r. ⌜ halvesBlock r ≡ b ⌝ }
+{
+    whole_at(&b, 0)
+}
+
+// Whether a block lies in n bytes from place i on.
+fn lies_at(n: usize, i: usize) -> bool
+    ensures { λ r. ⌜ r ≡ leb (i + 16) n ⌝ }
+{
+    if n < 16 {
+        return false;
+    }
+    i <= n - 16
 }
 
 // The block from place i on, and zeros where no whole block lies there.
@@ -101,31 +95,6 @@ pub fn add_halves(a: Halves, b: Halves) -> Halves
     }
 }
 
-pub fn block(h: Halves) -> [u8; 16]
-    ensures { λ r. ⌜ r ≡ halvesBlock h ⌝ }
-{
-    let a = h.first;
-    let b = h.second;
-    [
-        (a % 256) as u8,
-        (a / 256 % 256) as u8,
-        (a / 65536 % 256) as u8,
-        (a / 16777216 % 256) as u8,
-        (a / 4294967296 % 256) as u8,
-        (a / 1099511627776 % 256) as u8,
-        (a / 281474976710656 % 256) as u8,
-        (a / 72057594037927936 % 256) as u8,
-        (b % 256) as u8,
-        (b / 256 % 256) as u8,
-        (b / 65536 % 256) as u8,
-        (b / 16777216 % 256) as u8,
-        (b / 4294967296 % 256) as u8,
-        (b / 1099511627776 % 256) as u8,
-        (b / 281474976710656 % 256) as u8,
-        (b / 72057594037927936 % 256) as u8,
-    ]
-}
-
 // The eight bytes of a word from place i on.
 fn write_word(out: &mut [u8], i: usize, w: u64)
     requires { ⌜ i + 8 ≤ length (now out) ⌝ }
@@ -147,6 +116,14 @@ fn put_whole(out: &mut [u8], h: Halves)
 {
     write_word(out, 0, h.first);
     write_word(out, 8, h.second);
+}
+
+pub fn block(h: Halves) -> [u8; 16]
+    ensures { λ r. ⌜ r ≡ halvesBlock h ⌝ }
+{
+    let mut b = [0u8; 16];
+    put_whole(&mut b, h);
+    b
 }
 
 // The block over the front of the output, as far as it reaches.
