@@ -1,7 +1,7 @@
 -- Two columns in a word of 64 bits: their bytes, and the word put together, taken apart and added.
 -- Assumes nothing.
 use mathlib.Core.Path.{_≡_, sym, ap, ap₂, _∙_}
-use mathlib.Core.List.{[], _∷_, _++_}
+use mathlib.Core.List.{List, [], _∷_, _++_}
 use Prim.Native.Nat.{ℕ, _+_, _*_, _/_, _%_, _<_}
 use native.Mathlib.Omega.{arith}
 use lib.Bits.{bitXor, xor-shr}
@@ -68,28 +68,24 @@ pub wordBytes-is : (w : ℕ)
     ∷ w / 4294967296 % 256 ∷ w / 1099511627776 % 256 ∷ w / 281474976710656 % 256 ∷ w / 72057594037927936 % 256 ∷ []
 wordBytes-is w = rw (columnFrom-is w, columnFrom-is (w / 4294967296), place-5 w, place-6 w, place-7 w)
 
+-- the bytes of a column's word
+abbrev rows : ℕ → Column
+rows w = w % 256 ∷ w / 256 % 256 ∷ w / 65536 % 256 ∷ w / 16777216 % 256 ∷ []
+
 module _ (h : Halves) where
+  columnsOf-rows : columnsOf h ≡ rows (h .first) ∷ rows (h .first / 4294967296) ∷ rows (h .second) ∷ rows (h .second / 4294967296) ∷ []
+  columnsOf-rows =
+      columnsOf-is h
+      ∙ four (columnFrom-is (h .first)) (columnFrom-is (h .first / 4294967296)) (columnFrom-is (h .second)) (columnFrom-is (h .second / 4294967296))
+
   pub halvesBlock-words : halvesBlock h ≡ wordBytes (h .first) ++ wordBytes (h .second)
-  halvesBlock-words =
-      rw (
-        halvesBlock-is h,
-        columnsOf-is h,
-        columnFrom-is (h .first),
-        columnFrom-is (h .first / 4294967296),
-        columnFrom-is (h .second),
-        columnFrom-is (h .second / 4294967296),
-      )
+  halvesBlock-words = halvesBlock-is h ∙ ap bytesOf columnsOf-rows ∙ sym (ap₂ (λ (a b : List ℕ). a ++ b) (of-word (h .first)) (of-word (h .second)))
+    where
+      of-word : (w : ℕ) → wordBytes w ≡ rows w ++ rows (w / 4294967296)
+      of-word w = ap₂ (λ (a b : List ℕ). a ++ b) (columnFrom-is w) (columnFrom-is (w / 4294967296))
 
   pub columnsOf-block : columnsOf h ≡ stateFrom (halvesBlock h)
-  columnsOf-block =
-      rw (
-        halvesBlock-is h,
-        columnsOf-is h,
-        columnFrom-is (h .first),
-        columnFrom-is (h .first / 4294967296),
-        columnFrom-is (h .second),
-        columnFrom-is (h .second / 4294967296),
-      )
+  columnsOf-block = columnsOf-rows ∙ sym (ap stateFrom (halvesBlock-is h ∙ ap bytesOf columnsOf-rows))
 
 -- ---- added
 
