@@ -1,28 +1,40 @@
--- What the right tables have for a byte.
+-- What the right tables have for a byte; and how they are tested: the first by its rule, and each other as the first with its columns turned.
 -- Assumes nothing.
-use mathlib.Core.Path.{_≡_, ap, _∙_}
+use mathlib.Core.Path.{_≡_, refl, sym, ap, ap₂, subst, _∙_}
+use mathlib.Core.Bool.{Bool, true, false, _&&_}
 use mathlib.Core.List.{List, [], _∷_}
-use Prim.Native.Nat.{ℕ, _+_, _-_, _%_, _<_}
+use Prim.Native.Nat.{ℕ, zero, suc, _+_, _-_, _/_, _%_, _<_}
 use native.Mathlib.Nat.{zero-add}
-use lib.ListN.{getD}
+use lib.Dec.{T, eqb, eqb→eq}
+use lib.ListN.{length, getD}
 use Rattle.octets.specs.Bytes.{Bytes}
-use Rattle.octets.proofs.Values.{getD-values}
+use Rattle.octets.specs.Values.{values}
+use Rattle.octets.proofs.Values.{getD-values, values-same}
 use Rattle.octets.proofs.Bytes.{bytes-nil, bytes-cons}
 use Rattle.aes_field.specs.Field.{sbox}
+use Rattle.aes_field.specs.Words.{Column}
+use Rattle.aes_field.proofs.Computed.{follows, follows-values}
 use Rattle.aes_field.proofs.Linear.{times-byte}
 use Rattle.aes_field.proofs.Inverse.{sbox-byte}
 use Rattle.aes_fast.specs.ByTables.{Tables, columnFrom, entryAt}
-use Rattle.aes_fast.specs.Right.{wordFrom, spread, added, roundTable, Right}
+use Rattle.aes_fast.specs.ByTables.Inside.{columnFrom-is}
+use Rattle.aes_fast.specs.Right.{wordFrom, spread, turned, added, roundTable, Right}
 use Rattle.aes_fast.specs.Right.Inside.{roundTables-is, right-is}
-use Rattle.aes_fast.proofs.Columns.{columnFrom-wordFrom}
+use Rattle.aes_fast.proofs.Columns.{four, columnFrom-wordFrom}
 
 spread-bytes : {a : ℕ} → a < 256 → Bytes (spread a)
 spread-bytes h = bytes-cons (times-byte 2 h) (bytes-cons h (bytes-cons h (bytes-cons (times-byte 3 h) bytes-nil)))
 
+-- what the byte a in row n adds, once substituted
+abbrev pub rule : ℕ → ℕ → ℕ
+rule n a = wordFrom (added n (sbox a))
+
+columnFrom-rule : (n a : ℕ) → a < 256 → columnFrom (rule n a) ≡ added n (sbox a)
+columnFrom-rule n a h =
+    columnFrom-wordFrom (λ r. getD (spread (sbox a)) ((r + 4 - n) % 4) 0) (λ r. spread-bytes (sbox-byte a h) .byte ((r + 4 - n) % 4))
+
 columnFrom-entry : (n a : ℕ) → a < 256 → columnFrom (getD (roundTable n) a 0) ≡ added n (sbox a)
-columnFrom-entry n a h =
-    ap columnFrom (getD-values (λ x. wordFrom (added n (sbox x))) 0 256 a 0 h ∙ ap (λ (x : ℕ). wordFrom (added n (sbox x))) (zero-add a))
-    ∙ columnFrom-wordFrom (λ r. getD (spread (sbox a)) ((r + 4 - n) % 4) 0) (λ r. spread-bytes (sbox-byte a h) .byte ((r + 4 - n) % 4))
+columnFrom-entry n a h = ap columnFrom (getD-values (rule n) 0 256 a 0 h ∙ ap (rule n) (zero-add a)) ∙ columnFrom-rule n a h
 
 module _ (t : Tables) (right : Right t) where
   table-is : (n : ℕ) → getD t n [] ≡ getD (roundTable 0 ∷ roundTable 1 ∷ roundTable 2 ∷ roundTable 3 ∷ []) n []
@@ -42,3 +54,47 @@ module _ (t : Tables) (right : Right t) where
 
   pub entry-3 : (a : ℕ) → a < 256 → entryAt t 3 a ≡ added 3 (sbox a)
   entry-3 = entry-is 3 (table-is 3)
+
+-- ---- the test
+
+-- the column of a word, turned
+abbrev turnedWord : ℕ → ℕ → ℕ
+turnedWord n w = wordFrom (turned n (w % 256 ∷ w / 256 % 256 ∷ w / 65536 % 256 ∷ w / 16777216 % 256 ∷ []))
+
+-- each entry of the second table is what g makes of the first's
+abbrev makes : (ℕ → ℕ) → List ℕ → List ℕ → Bool
+makes g [] [] = true
+makes g [] (y ∷ t) = false
+makes g (x ∷ s) [] = false
+makes g (x ∷ s) (y ∷ t) = eqb y (g x) && makes g s t
+
+abbrev pub turns : ℕ → List ℕ → List ℕ → Bool
+turns n = makes (turnedWord n)
+
+both : (a b : Bool) → T (a && b) → T a × T b
+both true b t = (tt, t)
+both false b t = absurd t
+
+makes-values : (g f : ℕ → ℕ) (i n : ℕ) (t : List ℕ) → T (makes g (values f i n) t) → t ≡ values (λ k. g (f k)) i n
+makes-values g f i zero [] h = refl
+makes-values g f i zero (y ∷ t) h = absurd h
+makes-values g f i (suc n) [] h = absurd h
+makes-values g f i (suc n) (y ∷ t) h =
+    let hs = both (eqb y (g (f i))) (makes g (values f (suc i) n) t) h in
+    ap₂ _∷_ (eqb→eq y (g (f i)) (hs .0)) (makes-values g f (suc i) n t (hs .1))
+
+turned-rule : (n a : ℕ) → a < 256 → turnedWord n (rule 0 a) ≡ rule n a
+turned-rule n a h = ap (λ (c : Column). wordFrom (turned n c)) (sym (columnFrom-is (rule 0 a)) ∙ columnFrom-rule 0 a h)
+
+module _ (a b c d : List ℕ) where
+  pub tables-tested : T (follows (rule 0) 0 a) → length a ≡ 256 → T (turns 1 a b) → T (turns 2 a c) → T (turns 3 a d)
+      → a ∷ b ∷ c ∷ d ∷ [] ≡ roundTable 0 ∷ roundTable 1 ∷ roundTable 2 ∷ roundTable 3 ∷ []
+  tables-tested ta size tb tc td = four first (other 1 b tb) (other 2 c tc) (other 3 d td)
+    where
+      first : a ≡ roundTable 0
+      first = follows-values (rule 0) 0 a ta ∙ ap (values (rule 0) 0) size
+
+      other : (n : ℕ) (t : List ℕ) → T (turns n a t) → t ≡ roundTable n
+      other n t h =
+          makes-values (turnedWord n) (rule 0) 0 256 t (subst (λ (s : List ℕ). T (turns n s t)) first h)
+          ∙ values-same (λ k. turnedWord n (rule 0 k)) (rule n) 0 256 (λ k lo hi. turned-rule n k hi)

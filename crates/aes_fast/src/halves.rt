@@ -1,13 +1,18 @@
 // A block, and a state, as two words of 64 bits: columns 0 and 1, and columns 2 and 3, the first byte lowest.
 use crate::words::word;
-use crate::words::word_of;
+use crate::words::word_at;
+use octets::strings::put;
 ghost use mathlib.Core.Path.{_≡_};
-ghost use mathlib.Core.List.{[], _∷_};
-ghost use Prim.Native.Nat.{_/_};
+ghost use mathlib.Core.List.{[], _∷_, _++_};
+ghost use Prim.Native.Nat.{_+_, _/_, _≤_};
+ghost use lib.Dec.{leb};
+ghost use lib.ListN.{length, take, drop};
+ghost use Rattle.octets.specs.Lent.{over};
+ghost use Rattle.octets.specs.Tests.{partOf};
+ghost use Rattle.octets.specs.Xor.{xors};
 ghost use Rattle.aes.specs.State.{column, stateOf, bytes};
-ghost use Rattle.aes.specs.Cipher.{addRoundKey};
 ghost use Rattle.aes_fast.specs.ByTables.{columnFrom};
-ghost use Rattle.aes_fast.specs.Halves.{columnsOf, halvesBlock};
+ghost use Rattle.aes_fast.specs.Halves.{columnsOf, halvesBlock, wordBytes, blockAt};
 
 pub struct Halves {
     pub first: u64,
@@ -34,8 +39,55 @@ pub(crate) fn from_columns(a: u32, b: u32, c: u32, d: u32) -> Halves
     }
 }
 
-pub(crate) fn add_halves(a: Halves, b: Halves) -> Halves
-    ensures { λ r. ⌜ columnsOf r ≡ addRoundKey (columnsOf a) (columnsOf b) ⌝ }
+pub(crate) fn halves_of(s: [[u8; 4]; 4]) -> Halves
+    ensures { λ r. ⌜ columnsOf r ≡ stateOf (λ c. bytes (column s c)) ⌝ }
+{
+    from_columns(word(s[0]), word(s[1]), word(s[2]), word(s[3]))
+}
+
+fn whole_at(s: &[u8], i: usize) -> Halves
+    requires { ⌜ i + 16 ≤ length (now s) ⌝ }
+    ensures { λ r. ⌜ halvesBlock r ≡ partOf (now (s .entry)) i 16 ⌝ }
+{
+    from_columns(
+        word_at(s, i),
+        word_at(s, i + 4),
+        word_at(s, i + 8),
+        word_at(s, i + 12),
+    )
+}
+
+pub fn halves_from(b: [u8; 16]) -> Halves
+    ensures { λ r. ⌜ halvesBlock r ≡ b ⌝ }
+{
+    whole_at(&b, 0)
+}
+
+// Whether a block lies in n bytes from place i on.
+fn lies_at(n: usize, i: usize) -> bool
+    ensures { λ r. ⌜ r ≡ leb (i + 16) n ⌝ }
+{
+    if n < 16 {
+        return false;
+    }
+    i <= n - 16
+}
+
+// The block from place i on, and zeros where no whole block lies there.
+pub fn halves_at(s: &[u8], i: usize) -> Halves
+    ensures { λ r. ⌜ halvesBlock r ≡ blockAt (now (s .entry)) i ⌝ }
+{
+    if lies_at(s.len(), i) {
+        return whole_at(s, i);
+    }
+    Halves {
+        first: 0,
+        second: 0,
+    }
+}
+
+pub fn add_halves(a: Halves, b: Halves) -> Halves
+    ensures { λ r. ⌜ halvesBlock r ≡ xors (halvesBlock a) (halvesBlock b) ⌝ }
 {
     Halves {
         first: a.first ^ b.first,
@@ -43,44 +95,45 @@ pub(crate) fn add_halves(a: Halves, b: Halves) -> Halves
     }
 }
 
-pub(crate) fn halves_of(s: [[u8; 4]; 4]) -> Halves
-    ensures { λ r. ⌜ columnsOf r ≡ stateOf (λ c. bytes (column s c)) ⌝ }
+// The eight bytes of a word from place i on.
+fn write_word(out: &mut [u8], i: usize, w: u64)
+    requires { ⌜ i + 8 ≤ length (now out) ⌝ }
+    ensures { λ _. ⌜ now (out .exit) ≡ take i (now (out .entry)) ++ wordBytes w ++ drop (i + 8) (now (out .entry)) ⌝ }
 {
-    from_columns(word(s[0]), word(s[1]), word(s[2]), word(s[3]))
+    out[i] = (w % 256) as u8;
+    out[i + 1] = (w / 256 % 256) as u8;
+    out[i + 2] = (w / 65536 % 256) as u8;
+    out[i + 3] = (w / 16777216 % 256) as u8;
+    out[i + 4] = (w / 4294967296 % 256) as u8;
+    out[i + 5] = (w / 1099511627776 % 256) as u8;
+    out[i + 6] = (w / 281474976710656 % 256) as u8;
+    out[i + 7] = (w / 72057594037927936 % 256) as u8;
 }
 
-pub fn halves_from(b: [u8; 16]) -> Halves
-    ensures { λ r. ⌜ halvesBlock r ≡ b ⌝ }
+fn put_whole(out: &mut [u8], h: Halves)
+    requires { ⌜ 16 ≤ length (now out) ⌝ }
+    ensures { λ _. ⌜ now (out .exit) ≡ halvesBlock h ++ drop 16 (now (out .entry)) ⌝ }
 {
-    from_columns(
-        word_of(b[0], b[1], b[2], b[3]),
-        word_of(b[4], b[5], b[6], b[7]),
-        word_of(b[8], b[9], b[10], b[11]),
-        word_of(b[12], b[13], b[14], b[15]),
-    )
+    write_word(out, 0, h.first);
+    write_word(out, 8, h.second);
 }
 
 pub fn block(h: Halves) -> [u8; 16]
     ensures { λ r. ⌜ r ≡ halvesBlock h ⌝ }
 {
-    let a = h.first;
-    let b = h.second;
-    [
-        (a % 256) as u8,
-        (a / 256 % 256) as u8,
-        (a / 65536 % 256) as u8,
-        (a / 16777216 % 256) as u8,
-        (a / 4294967296 % 256) as u8,
-        (a / 1099511627776 % 256) as u8,
-        (a / 281474976710656 % 256) as u8,
-        (a / 72057594037927936 % 256) as u8,
-        (b % 256) as u8,
-        (b / 256 % 256) as u8,
-        (b / 65536 % 256) as u8,
-        (b / 16777216 % 256) as u8,
-        (b / 4294967296 % 256) as u8,
-        (b / 1099511627776 % 256) as u8,
-        (b / 281474976710656 % 256) as u8,
-        (b / 72057594037927936 % 256) as u8,
-    ]
+    let mut b = [0u8; 16];
+    put_whole(&mut b, h);
+    b
+}
+
+// The block over the front of the output, as far as it reaches.
+pub fn put_halves(out: &mut [u8], h: Halves)
+    ensures { λ _. ⌜ now (out .exit) ≡ over (halvesBlock h) (now (out .entry)) ⌝ }
+{
+    if out.len() < 16 {
+        let b = block(h);
+        put(out, &b);
+        return;
+    }
+    put_whole(out, h);
 }

@@ -1,21 +1,13 @@
--- `aes_fast::halves::block` meets its contract: the bytes of the two words.
+-- `aes_fast::halves::block` meets its contract: the block written over as many zeros.
 -- Assumes nothing.
 use borrow.Author.Needs.{needs}
-use Rattle.aes_fast.specs.ByTables.{columnFrom}
-use Rattle.aes_fast.specs.Halves.{columnsOf, halvesBlock}
-use Rattle.aes_fast.proofs.Pairs.{block-bytes}
+use mathlib.Core.Path.{_∙_}
+use mathlib.Core.List.{append-nil}
 use Rattle.aes_fast.proofs.halves.block.Statement.{statement}
 use Rattle.aes_fast.proofs.halves.block.Tie as tie
 
 returns : tie.Need-returns
-unfolding halvesBlock columnsOf columnFrom
-returns c = block-bytes (c .args .h .first) (c .args .h .second)
+returns c = c .before .put-whole .ensures ∙ append-nil _
 
 pub block-spec : {M : Type 1} → statement M
-block-spec =
-    tie.close
-    (tie.spec
-    (λ c. search needs) (λ c. search needs) (λ c. search needs) (λ c. search needs) (λ c. search needs)
-    (λ c. search needs) (λ c. search needs) (λ c. search needs) (λ c. search needs) (λ c. search needs)
-    (λ c. search needs) (λ c. search needs) (λ c. search needs) (λ c. search needs) (λ c. search needs)
-    (λ c. search needs) returns)
+block-spec = tie.close (tie.spec (λ c. search needs) (λ c κs. search needs) returns)
