@@ -1,27 +1,53 @@
--- The field's inverse, the affine map, and the S-box with its inverse: each undoes what it should, on all bytes.
+-- The field's inverse, the affine map, and the S-box with its inverse: each undoes what it should, on all bytes. One computed test goes over the
+-- table of the inverses, so that each is worked out once.
 -- Assumes nothing.
-use mathlib.Core.Path.{_≡_, ap, _∙_}
+use mathlib.Core.Path.{_≡_, sym, ap, _∙_}
+use mathlib.Core.Bool.{Bool, _&&_}
+use mathlib.Core.List.{List}
 use Prim.Native.Nat.{ℕ, _<_}
 use native.Mathlib.Omega.{arith}
-use lib.Dec.{eqb}
+use lib.Dec.{T, eqb, eqb→eq}
+use lib.ListN.{getD}
 use Rattle.octets.specs.Lent.{when}
 use Rattle.aes_field.specs.Field.{xtime, times, inverse, affine, unaffine, sbox, invSbox}
-use Rattle.aes_field.proofs.Computed.{agree-at}
+use Rattle.aes_field.specs.Tables.{tableOf}
+use Rattle.aes_field.proofs.Computed.{and-left, and-right, below, below-at, agree-at}
+use Rattle.aes_field.proofs.Tables.{tableOf-at}
 use Rattle.aes_field.proofs.Linear.{times-byte}
+
+-- of a table: the entry at the entry of k is k, and k times its entry is {01}, or {00} where k is {00}
+abbrev back : List ℕ → ℕ → Bool
+back t k = eqb (getD t (getD t k 0) 0) k
+
+abbrev one : List ℕ → ℕ → Bool
+one t k = eqb (times k (getD t k 0)) (when (eqb k 0) 0 1)
+
+abbrev inverts : List ℕ → Bool
+inverts t = below (λ k. back t k && one t k) 256
+
+tested : T (inverts (tableOf inverse))
+unfolding tableOf inverse times xtime
+tested = tt
+
+module _ (a : ℕ) (h : a < 256) where
+  inverse-byte : inverse a < 256
+  unfolding inverse
+  inverse-byte = times-byte _ (times-byte a h)
+
+  entry : getD (tableOf inverse) a 0 ≡ inverse a
+  entry = tableOf-at inverse a h
+
+  test : T (back (tableOf inverse) a && one (tableOf inverse) a)
+  test = below-at (λ k. back (tableOf inverse) k && one (tableOf inverse) k) 256 tested a h
 
 module _ (a : ℕ) (h : a < 256) where
   -- 4.4: a byte other than {00} times its inverse is {01}
   pub inverse-is : times a (inverse a) ≡ when (eqb a 0) 0 1
-  unfolding inverse times xtime
-  inverse-is = agree-at (λ x. times x (inverse x)) (λ x. when (eqb x 0) 0 1) 256 tt a h
+  inverse-is = ap (times a) (sym (entry a h)) ∙ eqb→eq _ _ (and-right (back (tableOf inverse) a) (one (tableOf inverse) a) (test a h))
 
   inverse-inverse : inverse (inverse a) ≡ a
-  unfolding inverse times xtime
-  inverse-inverse = agree-at (λ x. inverse (inverse x)) (λ x. x) 256 tt a h
-
-  inverse-byte : inverse a < 256
-  unfolding inverse
-  inverse-byte = times-byte _ (times-byte a h)
+  inverse-inverse =
+      sym (entry (inverse a) (inverse-byte a h)) ∙ ap (λ (x : ℕ). getD (tableOf inverse) x 0) (sym (entry a h)) ∙ eqb→eq _ _ (and-left (back (tableOf inverse) a) (one (tableOf inverse) a) (test a h))
 
   affine-byte : affine a < 256
   unfolding affine

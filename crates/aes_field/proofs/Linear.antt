@@ -73,7 +73,7 @@ times-sum4 f b h =
     ∙ ap (λ (x : ℕ). bitXor x (times (f 3) b)) (times-linear b (xor-byte (h 0) (h 1)) (h 2)
     ∙ ap (λ (x : ℕ). bitXor x (times (f 2) b)) (times-linear b (h 0) (h 1)))
 
-sum4-add : (f g : ℕ → ℕ) → bitXor (sum4 f) (sum4 g) ≡ sum4 (λ i. bitXor (f i) (g i))
+pub sum4-add : (f g : ℕ → ℕ) → bitXor (sum4 f) (sum4 g) ≡ sum4 (λ i. bitXor (f i) (g i))
 sum4-add f g =
     xor-exchange (bitXor (bitXor (f 0) (f 1)) (f 2)) (f 3) (bitXor (bitXor (g 0) (g 1)) (g 2)) (g 3)
     ∙ ap (λ (x : ℕ). bitXor x (bitXor (f 3) (g 3)))

@@ -1,10 +1,10 @@
--- The matrices of MixColumns and InvMixColumns undo one another: the product is linear, and one test over all bytes for each of four
+-- The matrices of MixColumns and InvMixColumns undo one another: the product is linear, and one test over the bits of a byte in each of four
 -- places says what the two matrices together make of a byte there. antt computes the tests.
 -- Assumes nothing.
-use mathlib.Core.Path.{_≡_, refl, ap, ap₂, _∙_}
-use mathlib.Core.Bool.{Bool}
+use mathlib.Core.Path.{_≡_, refl, sym, ap, ap₂, _∙_}
+use mathlib.Core.Bool.{Bool, true, false}
 use mathlib.Core.List.{_∷_}
-use Prim.Native.Nat.{ℕ, suc, _+_, _-_, _*_, _/_, _%_, _<_}
+use Prim.Native.Nat.{ℕ, suc, _+_, _-_, _*_, _/_, _%_, _^_, _<_}
 use native.Mathlib.Omega.{arith}
 use lib.Dec.{T, eqb, eqb·suc-zero, lit<}
 use lib.Bits.{bitXor, xor-comm, xor-zero-r}
@@ -14,7 +14,8 @@ use Rattle.octets.proofs.Xor.{xor-assoc}
 use Rattle.aes_field.specs.Field.{xtime, times}
 use Rattle.aes_field.specs.Words.{Column, columnOf, sum4, timesMatrix, mixRow, invMixRow}
 use Rattle.aes_field.proofs.Computed.{agree, agree-at}
-use Rattle.aes_field.proofs.Linear.{times-byte, times-sum4, sum4-swap}
+use Rattle.aes_field.proofs.Linear.{times-byte, times-linear, times-sum4, sum4-add, sum4-swap}
+use Rattle.aes_field.proofs.Additive.{Adds, bytes-agree}
 
 abbrev entry : Column → ℕ → ℕ
 entry k i = getD k (i % 4) 0
@@ -43,11 +44,11 @@ pub add4 : {a b c d a′ b′ c′ d′ : ℕ} → a ≡ a′ → b ≡ b′ →
 add4 p q r s = ap₂ bitXor (ap₂ bitXor (ap₂ bitXor p q) r) s
 
 -- of a byte in row d: itself where d is 0, and else nothing
-abbrev kept : ℕ → ℕ → ℕ
-kept d x = when (eqb d 0) x 0
+abbrev own : ℕ → ℕ → ℕ
+own d x = when (eqb d 0) x 0
 
 -- only a byte in row 0 reaches row 0
-module _ (k l : Column) (only : (d : ℕ) → d < 4 → (x : ℕ) → x < 256 → reaches k l d x ≡ kept d x)
+module _ (k l : Column) (only : (d : ℕ) → d < 4 → (x : ℕ) → x < 256 → reaches k l d x ≡ own d x)
     (f : ℕ → ℕ) (bytes : (i : ℕ) → f i < 256) where
   itself : (i : ℕ) → reaches k l 0 (f i) ≡ f i
   itself i = only 0 (lit< tt) (f i) (bytes i)
@@ -98,13 +99,31 @@ module _ (k l : Column) (only : (d : ℕ) → d < 4 → (x : ℕ) → x < 256 �
   undone =
       ap₂ _∷_ (row 0 ∙ row-0) (ap₂ _∷_ (row 1 ∙ row-1) (ap₂ _∷_ (row 2 ∙ row-2) (ap₂ _∷_ (row 3 ∙ row-3) refl)))
 
--- one test over all bytes in each of the four rows, number 4x + d for the byte x in row d
-tested : (k l : Column) → T (agree (λ n. reaches k l (n % 4) (n / 4)) (λ n. kept (n % 4) (n / 4)) 1024)
-    → (d : ℕ) → d < 4 → (x : ℕ) → x < 256 → reaches k l d x ≡ kept d x
-tested k l t d hd x hx =
-    let row : (4 * x + d) % 4 ≡ d = omega arith in
-    let byte : (4 * x + d) / 4 ≡ x = omega arith in
-    rw (row, byte) at (agree-at (λ n. reaches k l (n % 4) (n / 4)) (λ n. kept (n % 4) (n / 4)) 1024 t (4 * x + d) (omega arith))
+-- what reaches row 0 keeps sums, so one test over the eight bits in each of the four rows is enough: number 4b + d for bit b in row d
+reaches-adds : (k l : Column) (d : ℕ) → Adds (reaches k l d)
+reaches-adds k l d a b ha hb = add4 (at 0) (at 1) (at 2) (at 3) ∙ sym (sum4-add (part k l d a) (part k l d b))
+  where
+    at : (m : ℕ) → part k l d (bitXor a b) m ≡ bitXor (part k l d a m) (part k l d b m)
+    at m =
+        ap (λ (x : ℕ). times x (entry l m)) (times-linear (entry k (d + 4 - m)) ha hb)
+        ∙ times-linear (entry l m) (times-byte (entry k (d + 4 - m)) ha) (times-byte (entry k (d + 4 - m)) hb)
+
+own-adds : (d : ℕ) → Adds (own d)
+own-adds d a b ha hb = go (eqb d 0)
+  where
+    go : (t : Bool) → when t (bitXor a b) 0 ≡ bitXor (when t a 0) (when t b 0)
+    go true = refl
+    go false = refl
+
+tested : (k l : Column) → T (agree (λ n. reaches k l (n % 4) (2 ^ (n / 4))) (λ n. own (n % 4) (2 ^ (n / 4))) 32)
+    → (d : ℕ) → d < 4 → (x : ℕ) → x < 256 → reaches k l d x ≡ own d x
+tested k l t d hd = bytes-agree (reaches k l d) (own d) (reaches-adds k l d) (own-adds d) bit
+  where
+    bit : (b : ℕ) → b < 8 → reaches k l d (2 ^ b) ≡ own d (2 ^ b)
+    bit b h =
+        let row : (4 * b + d) % 4 ≡ d = omega arith in
+        let place : (4 * b + d) / 4 ≡ b = omega arith in
+        rw (row, place) at (agree-at (λ n. reaches k l (n % 4) (2 ^ (n / 4))) (λ n. own (n % 4) (2 ^ (n / 4))) 32 t (4 * b + d) (omega arith))
 
 module _ (f : ℕ → ℕ) (bytes : (i : ℕ) → f i < 256) where
   pub inv-mix-mix : timesMatrix invMixRow (timesMatrix mixRow (columnOf f)) ≡ columnOf f

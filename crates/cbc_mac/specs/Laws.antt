@@ -1,6 +1,6 @@
--- CBC-MAC (SP 800-38C, section 6.1, steps 2 to 4) by tables and round keys that are lent: octets' specs/Blocks has the chain, and specs/Running the chain
--- over parts. The calls' contracts are aes_fast's `Ciphered` of these; what follows says of each that ready tables and keys make it the cipher's, and that
--- one result meets it. proofs/Laws.antt proves each.
+-- CBC-MAC, the chain of SP 800-38C's section 6.1, step 3, by tables and round keys that are lent. octets' specs/Blocks has the chain, and specs/Running
+-- the chain over parts; the calls' contracts are aes_fast's `Ciphered` of these. What follows says of each that ready tables and keys make it the
+-- cipher's, and that one result meets it. proofs/Laws.antt proves each.
 -- Assumes nothing.
 use mathlib.Core.Path.{_≡_}
 use Prim.Native.Nat.{ℕ, _%_}
