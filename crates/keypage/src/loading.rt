@@ -14,12 +14,12 @@ ghost use Prim.Native.Nat.{_≤_};
 ghost use lib.ListN.{length};
 ghost use Rattle.keytable.specs.Row.{keySize};
 ghost use Rattle.keytable.specs.Table.{tableOk};
-ghost use Rattle.keypage.specs.KeyPart.{partRefused, partLong};
+ghost use Rattle.keypage.specs.KeyPart.{partRefused};
 ghost use Rattle.keypage.specs.Load.{rowNamed, partAnswer, loadAnswer};
 
 // The key of a KEY part of a known format: 6 to 9, or 0 with the key.
 fn load_part(table: &[u8], algorithm: usize, format: usize, s: &[u8], out: &mut [u8]) -> u8
-    requires { ⌜ (tableOk (now table) ≡ true) × (partRefused format (now s) ≡ false) × (partLong format (now s) ≡ false) × (keySize ≤ length (now out)) ⌝ }
+    requires { ⌜ (tableOk (now table) ≡ true) × (partRefused format (now s) ≡ false) × (keySize ≤ length (now out)) ⌝ }
     ensures { λ x. ⌜ partAnswer (rowNamed (now (table .entry)) format (now (s .entry))) algorithm format (now (s .entry)) (now (out .entry)) ≡ (x, now (out .exit)) ⌝ }
 {
     if format == 0 {

@@ -7,17 +7,17 @@ use keytable::use_at;
 use octets::big_endian::read16;
 use octets::strings::part;
 ghost use mathlib.Core.Path.{_≡_};
-ghost use mathlib.Core.Bool.{true, false};
+ghost use mathlib.Core.Bool.{true};
 ghost use Prim.Native.Nat.{_≤_};
 ghost use lib.ListN.{length};
 ghost use Rattle.keytable.specs.Row.{keySize};
 ghost use Rattle.keytable.specs.Table.{tableOk, rowFor};
-ghost use Rattle.keypage.specs.KeyPart.{wrappedFormat, identifierOf, partLong};
+ghost use Rattle.keypage.specs.KeyPart.{wrappedFormat, identifierOf};
 ghost use Rattle.keypage.specs.Load.{partAnswer};
 
 // A wrapped key: its wrapped part is passed on to the unwrapping, with the KEK of that identifier.
 pub(crate) fn load_wrapped(table: &[u8], algorithm: usize, s: &[u8], out: &mut [u8]) -> u8
-    requires { ⌜ (tableOk (now table) ≡ true) × (partLong wrappedFormat (now s) ≡ false) × (keySize ≤ length (now out)) ⌝ }
+    requires { ⌜ (tableOk (now table) ≡ true) × (keySize ≤ length (now out)) ⌝ }
     ensures { λ x. ⌜ partAnswer (rowFor (now (table .entry)) (identifierOf (now (s .entry)))) algorithm wrappedFormat (now (s .entry)) (now (out .entry)) ≡ (x, now (out .exit)) ⌝ }
 {
     let n = read16(s, 2);

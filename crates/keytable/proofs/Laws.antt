@@ -10,16 +10,16 @@ use borrow.Author.Tests.{ne-eqb}
 use lib.ListN.{length}
 use Rattle.octets.proofs.Unique.{unique, unique-by}
 use Rattle.octets.specs.Tests.{all}
-use Rattle.keytable.specs.Row.{rowSize, nameMax, keyAt, keySize, nameLength, nameOf, useOf, keyIn, named, rowOk}
+use Rattle.keytable.specs.Row.{rowSize, nameMax, nameAt, keyAt, keySize, nameLength, nameOf, useOf, keyIn, named, rowOk}
 use Rattle.keytable.specs.Table.{rowPlace, headOk, tableOk, rows, rowsOf, rowCount, distinct, holders, rowFor, rowAt, rowIn}
 use Rattle.keytable.specs.Calls.{tableNumber, tableSays, tableAnswer, findUse}
-use Rattle.keytable.specs.Find.{foundSays, placeOf, foundAnswer}
+use Rattle.keytable.specs.Find.{foundSays, placeOf, foundAnswer, rowFound}
 use Rattle.keytable.specs.declared.Found.{Found}
 use Rattle.keytable.specs.declared.Found.the-variants.{At, Nothing, Broken}
-use Rattle.keytable.specs.Laws.{NamedWhole, OtherLength, OneRow, AtMostOne, FoundRow, FindsExactly, ElseNothing, FindsBroken, RowForGood, OtherRows, HoldersRow, EmptyTable, CheckTestsRise, UseTestsRise, CheckUnique, FindUnique, FindUseUnique, RowAtUnique, UseAtUnique, KeyAtUnique}
-use Rattle.octets.proofs.Tests.{all-at, length-part}
+use Rattle.keytable.specs.Laws.{NamedWhole, OtherLength, OneRow, AtMostOne, FindsRow, FoundRow, FindsExactly, ElseNothing, FindsBroken, RowForGood, OtherRows, HoldersRow, EmptyTable, CheckTestsRise, UseTestsRise, CheckUnique, FindUnique, FindUseUnique, RowAtUnique, UseAtUnique, KeyAtUnique}
+use Rattle.octets.proofs.Tests.{all-at, length-part, part-short}
 use Rattle.keytable.proofs.Accepted.{head-total, accepted-head, accepted-rows, accepted-distinct, length-rowsOf, rowsOf-at, name-short}
-use Rattle.keytable.proofs.Lookup.{named-whole, named-own, distinct-one, distinct-holders, asList, asList-injective, lookup-one, placeOf-row, placeOf-nothing, placeOf-broken, broken-head}
+use Rattle.keytable.proofs.Lookup.{named-whole, named-own, distinct-one, distinct-holders, asList, asList-injective, lookup-one, placeOf-row, placeOf-else, placeOf-broken, broken-head}
 use Rattle.keytable.proofs.Places.{foundIn, foundIn-says, says-same}
 use Rattle.keytable.proofs.Calls.{tableIn, tableIn-says}
 
@@ -51,50 +51,6 @@ at-most-one t name ok = rw (the-row t name ok) (go (rowFor t name))
 
 -- ---- the lookup
 
-module _ (t name : List ℕ) (ok : tableOk t ≡ true) (short : length name ≤ nameMax) where
-  found : (p : ℕ) → placeOf t name ≡ At p → (rowFor t name ≡ some (rowAt t p)) × (p + rowSize ≤ length t)
-  found p e = placeOf-row t name (accepted-head t ok) short p e
-
-  absent-row : placeOf t name ≡ Nothing → rowFor t name ≡ none
-  absent-row e = placeOf-nothing t name (accepted-head t ok) short e
-
-  whole : placeOf t name ≡ Broken → ⊥
-  whole e = false≢true (sym (broken-head t name e) ∙ accepted-head t ok)
-
-pub finds-exactly : FindsExactly
-finds-exactly t name row ok short = (to, λ e. from (placeOf t name) refl e)
-  where
-    to : FoundRow t name row → rowFor t name ≡ some row
-    to h =
-        let given : placeOf t name ≡ At (h .place) = says-same (placeOf t name) (At (h .place)) (h .answers) in
-        found t name ok short (h .place) given .0 ∙ ap some (h .is)
-
-    from : (f : Found) → placeOf t name ≡ f → rowFor t name ≡ some row → FoundRow t name row
-    from (At p) given e =
-        let (there, inside) = found t name ok short p given in
-        let is-row : rowAt t p ≡ row = cc in
-        record { place = p; answers = ap foundSays given; is = is-row; within = inside }
-    from Nothing given e =
-        let nowhere = absent-row t name ok short given in
-        let z : _≡_ {A = ℕ} 0 1 = cc in absurd (omega arith)
-    from Broken given e = absurd (whole t name ok short given)
-
-pub else-nothing : ElseNothing
-else-nothing t name ok short = (to, from (placeOf t name) refl)
-  where
-    to : foundAnswer t name ≡ (6, []) → rowFor t name ≡ none
-    to e = absent-row t name ok short (says-same (placeOf t name) Nothing e)
-
-    from : (f : Found) → placeOf t name ≡ f → rowFor t name ≡ none → foundAnswer t name ≡ (6, [])
-    from (At p) given e =
-        let (there, inside) = found t name ok short p given in
-        let z : _≡_ {A = ℕ} 0 1 = cc in absurd (omega arith)
-    from Nothing given e = ap foundSays given
-    from Broken given e = absurd (whole t name ok short given)
-
-pub finds-broken : FindsBroken
-finds-broken t name = (λ e. broken-head t name (says-same (placeOf t name) Broken e), λ e. ap foundSays (placeOf-broken t name e))
-
 pub rowFor-good : RowForGood
 rowFor-good t name row ok e =
     let one = lookup-one name row (rowsOf t) e in
@@ -108,6 +64,63 @@ rowFor-good t name row ok e =
       name-is = named-whole name row (one .has);
       key-size = length-part row keyAt keySize (omega arith);
     }
+
+module _ (t name : List ℕ) (ok : tableOk t ≡ true) where
+  -- no row of an accepted table has a name past its maximum
+  long-none : nameMax < length name → rowFor t name ≡ none
+  long-none long = go (rowFor t name) refl
+    where
+      go : (o : Option (List ℕ)) → rowFor t name ≡ o → o ≡ none
+      go none e = refl
+      go (some row) e =
+          let good = rowFor-good t name row ok e in
+          absurd (omega (arith, long, name-short row (good .ok), ap length (good .name-is), part-short row nameAt (nameLength row)))
+
+  found : (p : ℕ) → placeOf t name ≡ At p → (rowFor t name ≡ some (rowAt t p)) × (p + rowSize ≤ length t)
+  found = placeOf-row t name (accepted-head t ok)
+
+  absent-row : placeOf t name ≡ Nothing → rowFor t name ≡ none
+  absent-row e = placeOf-else t name (accepted-head t ok) e long-none
+
+  whole : placeOf t name ≡ Broken → ⊥
+  whole e = false≢true (sym (broken-head t name e) ∙ accepted-head t ok)
+
+pub finds-row : FindsRow
+finds-row t name f ok e = go f (sym (says-same f (placeOf t name) e))
+  where
+    go : (g : Found) → placeOf t name ≡ g → rowFor t name ≡ rowFound t g
+    go (At p) is = found t name ok p is .0
+    go Nothing is = absent-row t name ok is
+    go Broken is = absurd (whole t name ok is)
+
+pub finds-exactly : FindsExactly
+finds-exactly t name row ok = (to, λ e. from (placeOf t name) refl e)
+  where
+    to : FoundRow t name row → rowFor t name ≡ some row
+    to h = finds-row t name (At (h .place)) ok (sym (h .answers)) ∙ ap some (h .is)
+
+    from : (f : Found) → placeOf t name ≡ f → rowFor t name ≡ some row → FoundRow t name row
+    from (At p) given e =
+        let (there, inside) = found t name ok p given in
+        let is-row : rowAt t p ≡ row = cc in
+        record { place = p; answers = ap foundSays given; is = is-row; within = inside }
+    from Nothing given e =
+        let nowhere = absent-row t name ok given in
+        let z : _≡_ {A = ℕ} 0 1 = cc in absurd (omega arith)
+    from Broken given e = absurd (whole t name ok given)
+
+pub else-nothing : ElseNothing
+else-nothing t name ok = (λ e. finds-row t name Nothing ok (sym e), from (placeOf t name) refl)
+  where
+    from : (f : Found) → placeOf t name ≡ f → rowFor t name ≡ none → foundAnswer t name ≡ (6, [])
+    from (At p) given e =
+        let (there, inside) = found t name ok p given in
+        let z : _≡_ {A = ℕ} 0 1 = cc in absurd (omega arith)
+    from Nothing given e = ap foundSays given
+    from Broken given e = absurd (whole t name ok given)
+
+pub finds-broken : FindsBroken
+finds-broken t name = (λ e. broken-head t name (says-same (placeOf t name) Broken e), λ e. ap foundSays (placeOf-broken t name e))
 
 -- ---- other rows
 

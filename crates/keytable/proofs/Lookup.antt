@@ -8,7 +8,7 @@ use Prim.Native.Nat.{ℕ, zero, suc, _+_, _*_, _≤_, _<_}
 use native.Mathlib.Nat.{le-of-suc-le-suc, not-suc-le-zero}
 use native.Mathlib.Numerals.{add-one}
 use native.Mathlib.Omega.{arith}
-use borrow.Author.Tests.{eqb-true, eq-eqb, le-leb, lt-leb, not-true}
+use borrow.Author.Tests.{eqb-true, eq-eqb, leb-true, leb-false, le-leb, lt-leb, not-true}
 use lib.Dec.{eqb, leb}
 use lib.ListN.{length, getD, drop, drop-of-length-le}
 use lib.Seq.{drop-cons, drop-drop}
@@ -204,21 +204,36 @@ broken-head t name e = go (headOk t) (leb (length name) nameMax) e
     go false short h = refl
 
 -- a header that keeps to the layout, and a name within its maximum
-
 module _ (t name : List ℕ) (head : headOk t ≡ true) (short : length name ≤ nameMax) where
   pub placeOf-looked : placeOf t name ≡ placeFrom headSize name (rowsOf t)
   unfolding placeOf
   placeOf-looked = rw (head, le-leb (length name) nameMax short)
 
+  placeOf-nothing : placeOf t name ≡ Nothing → lookup name (rowsOf t) ≡ none
+  placeOf-nothing e = place-none headSize name (rowsOf t) (sym placeOf-looked ∙ e)
+
+module _ (t name : List ℕ) (head : headOk t ≡ true) where
+  -- a place is given to a name within its maximum alone
   pub placeOf-row : (p : ℕ) → placeOf t name ≡ At p → (lookup name (rowsOf t) ≡ some (rowAt t p)) × (p + rowSize ≤ length t)
   unfolding rowsOf
-  placeOf-row p e =
-      let (is, within) = place-row (rowCount t) headSize p t name (sym placeOf-looked ∙ e) in
-      let inside : p + rowSize ≤ length t = omega (arith, head-total t head) in
-      (is ∙ ap some (sym (rowAt-within t p inside)), inside)
+  placeOf-row p e = go (leb (length name) nameMax) refl
+    where
+      go : (b : Bool) → leb (length name) nameMax ≡ b → (lookup name (rowsOf t) ≡ some (rowAt t p)) × (p + rowSize ≤ length t)
+      go true fits =
+          let short = leb-true (length name) nameMax fits in
+          let (is, within) = place-row (rowCount t) headSize p t name (sym (placeOf-looked t name head short) ∙ e) in
+          let inside : p + rowSize ≤ length t = omega (arith, head-total t head) in
+          (is ∙ ap some (sym (rowAt-within t p inside)), inside)
+      go false past =
+          let none-there = placeOf-long t name head (leb-false (length name) nameMax past) in
+          let z : _≡_ {A = ℕ} 0 1 = cc in absurd (omega arith)
 
-  pub placeOf-nothing : placeOf t name ≡ Nothing → lookup name (rowsOf t) ≡ none
-  placeOf-nothing e = place-none headSize name (rowsOf t) (sym placeOf-looked ∙ e)
+  pub placeOf-else : placeOf t name ≡ Nothing → (nameMax < length name → lookup name (rowsOf t) ≡ none) → lookup name (rowsOf t) ≡ none
+  placeOf-else e when-long = go (leb (length name) nameMax) refl
+    where
+      go : (b : Bool) → leb (length name) nameMax ≡ b → lookup name (rowsOf t) ≡ none
+      go true fits = placeOf-nothing t name head (leb-true (length name) nameMax fits) e
+      go false past = when-long (leb-false (length name) nameMax past)
 
 -- ---- holders
 

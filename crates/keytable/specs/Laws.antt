@@ -10,10 +10,11 @@ use lib.ListN.{length, getD}
 use Rattle.octets.specs.Lowest.{rises}
 use Rattle.octets.specs.Places.{Placed}
 use Rattle.octets.specs.Unique.{UniqueBy, Unique}
-use Rattle.keytable.specs.Row.{nameMax, rowSize, keySize, nameLength, nameOf, useOf, keyOf, rowOk, named, keyIn}
+use Rattle.keytable.specs.Row.{rowSize, keySize, nameLength, nameOf, useOf, keyOf, rowOk, named, keyIn}
 use Rattle.keytable.specs.Table.{rowCount, headOk, rowsOf, tableOk, holders, rowFor, rowAt, rowIn}
 use Rattle.keytable.specs.Calls.{checkTests, tableSays, tableAnswer, useTests, findUse}
-use Rattle.keytable.specs.Find.{foundSays, foundAnswer}
+use Rattle.keytable.specs.Find.{foundSays, foundAnswer, rowFound}
+use Rattle.keytable.specs.declared.Found.{Found}
 
 -- ---- names
 
@@ -36,6 +37,10 @@ AtMostOne = (t name : List ℕ) → tableOk t ≡ true → length (holders name 
 
 -- ---- the lookup
 
+-- what a lookup found, in an accepted table, is the row of the name
+abbrev pub FindsRow : Type 0
+FindsRow = (t name : List ℕ) (f : Found) → tableOk t ≡ true → foundSays f ≡ foundAnswer t name → rowFor t name ≡ rowFound t f
+
 -- row stands at a place that the lookup of the name gives, within the table
 pub record FoundRow (t name row : List ℕ) : Type 0 where
   pub place : ℕ
@@ -45,10 +50,10 @@ pub record FoundRow (t name row : List ℕ) : Type 0 where
 
 -- a place is given exactly where there is such a row, and the row there is that row
 abbrev pub FindsExactly : Type 0
-FindsExactly = (t name row : List ℕ) → tableOk t ≡ true → length name ≤ nameMax → FoundRow t name row ↔ (rowFor t name ≡ some row)
+FindsExactly = (t name row : List ℕ) → tableOk t ≡ true → FoundRow t name row ↔ (rowFor t name ≡ some row)
 
 abbrev pub ElseNothing : Type 0
-ElseNothing = (t name : List ℕ) → tableOk t ≡ true → length name ≤ nameMax → (foundAnswer t name ≡ (6, [])) ↔ (rowFor t name ≡ none)
+ElseNothing = (t name : List ℕ) → tableOk t ≡ true → (foundAnswer t name ≡ (6, [])) ↔ (rowFor t name ≡ none)
 
 -- and 1 is said exactly of a table whose header breaks the layout
 abbrev pub FindsBroken : Type 0

@@ -37,7 +37,7 @@ returns-4 : tie.Need-returns-4
 returns-4 c =
     let past = c .before .before in
     let ok = accepted (past .before .before) in
-    let nowhere = no-row _ _ (c .before .find .result) ok (past .if2 .left) (c .before .find .ensures) (c .match2 .keys2) in
+    let nowhere = no-row _ _ (c .before .find .result) ok (c .before .find .ensures) (c .match2 .keys2) in
     use-six _ _ _ _ ok (given (past .before)) (short past) nowhere
 
 returns-5 : tie.Need-returns-5
@@ -46,7 +46,7 @@ returns-5 c =
     let at-find = at-place .before .before in
     let past = at-find .before in
     let ok = accepted (past .before .before) in
-    let row = the-row _ _ _ ok (past .if2 .left) (at-find .find .ensures) _ (at-place .at .given .1) in
+    let row = the-row _ _ _ ok (at-find .find .ensures) _ (at-place .at .given .1) in
     use-done _ _ _ _ _ ok (given (past .before)) (short past) row ∙ ap (λ (u : ℕ). (0, u)) (sym (c .use-at .ensures))
 
 pub find-use-spec : {M : Type 1} → statement M

@@ -5,13 +5,11 @@ use mathlib.Core.Bool.{Bool, true, not}
 use mathlib.Core.List.{List}
 use Prim.Native.Nat.{ℕ}
 use borrow.Author.Tests.{lt-ltb, le-ltb}
-use lib.Dec.{ltb}
-use lib.ListN.{length}
 use Rattle.octets.proofs.Tests.{or-right}
 use Rattle.keytable.specs.Table.{tableOk}
 use Rattle.keytable.proofs.Calls.{rows-accepted, broken-refused}
-use Rattle.keypage.specs.Page.{pageMax, algorithmIn, formatIn, keyPart, fieldsOk}
-use Rattle.keypage.specs.KeyPart.{partRefused, partLong}
+use Rattle.keypage.specs.Page.{algorithmIn, formatIn, keyPart, fieldsOk}
+use Rattle.keypage.specs.KeyPart.{partRefused}
 use Rattle.keypage.specs.Read.{readNumber}
 use Rattle.keypage.specs.Load.{rowNamed, partAnswer}
 use Rattle.keypage.proofs.ReadNumbers.{accepted, list-good}
@@ -64,7 +62,6 @@ load-part-requires c κs =
     let passed = accepted p (readable (past .before)) in (
       table-good (past .before .before .before),
       of-its-part at-part partRefused ∙ or-right (not (fieldsOk p)) (partRefused (formatIn p) (keyPart p)) (passed .1),
-      of-its-part at-part partLong ∙ or-right (ltb pageMax (length p)) (partLong (formatIn p) (keyPart p)) (passed .2),
       past .if2 .left,
     )
 

@@ -3,9 +3,8 @@
 use mathlib.Core.Path.{_≡_, sym, ap, _∙_}
 use mathlib.Core.List.{List}
 use Prim.Native.Nat.{ℕ}
-use Rattle.keypage.specs.KeyPart.{partLong}
 use Rattle.keypage.specs.Load.{rowNamed, partAnswer}
-use Rattle.keypage.proofs.ByFormat.{third-format, reference-short}
+use Rattle.keypage.proofs.ByFormat.{third-format}
 use Rattle.keypage.proofs.LoadNumbers.{plain-zero}
 use borrow.Author.Needs.{needs}
 use Rattle.keypage.proofs.loading.load_part.Statement.{statement}
@@ -26,7 +25,7 @@ returns c =
 load-reference-requires : tie.Need-load-reference-requires
 load-reference-requires c κs =
     let s = start (c .before .before .before) in
-    (s .pre .0, reference-short _ (ap (λ (f : ℕ). partLong f (s .args .s .now)) (sym (c .before .if2 .taken)) ∙ s .pre .2), s .pre .3)
+    (s .pre .0, s .pre .2)
 
 returns-2 : tie.Need-returns-2
 returns-2 c =
@@ -38,7 +37,7 @@ returns-2 c =
 load-wrapped-requires : tie.Need-load-wrapped-requires
 load-wrapped-requires c κs =
     let s = start (c .before .before .before) in
-    (s .pre .0, ap (λ (f : ℕ). partLong f (s .args .s .now)) (sym (wrapped-format (c .before))) ∙ s .pre .2, s .pre .3)
+    (s .pre .0, s .pre .2)
 
 returns-3 : tie.Need-returns-3
 returns-3 c =

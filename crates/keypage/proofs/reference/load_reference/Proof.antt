@@ -21,14 +21,14 @@ start c = c .before .before .before .before
 found : (c : tie.After-at) → let a = start (c .before .before) .args in rowFor (a .table .now) (a .s .now) ≡ some (rowAt (a .table .now) (c .at .given .0 .0))
 found c =
     let at-find = c .before .before in
-    the-row _ _ _ (start at-find .pre .0) (start at-find .pre .1) (at-find .find .ensures) _ (c .at .given .1)
+    the-row _ _ _ (start at-find .pre .0) (at-find .find .ensures) _ (c .at .given .1)
 
 returns : tie.Need-returns
 returns c =
     let at-find = c .before in
     let from = start at-find in
     let a = from .args in
-    reference-six _ (a .algorithm) (a .s .now) (a .out .now) (no-row _ _ (at-find .find .result) (from .pre .0) (from .pre .1) (at-find .find .ensures) (c .match .keys2))
+    reference-six _ (a .algorithm) (a .s .now) (a .out .now) (no-row _ _ (at-find .find .result) (from .pre .0) (at-find .find .ensures) (c .match .keys2))
 
 returns-2 : tie.Need-returns-2
 returns-2 c =

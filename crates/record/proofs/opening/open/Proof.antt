@@ -5,7 +5,7 @@ use mathlib.Core.Bool.{Bool, true, false, _||_}
 use mathlib.Core.List.{List, [], _∷_}
 use mathlib.Core.Logic.{⊎-elim}
 use mathlib.Core.Option.{some}
-use Prim.Native.Nat.{ℕ, _≤_}
+use Prim.Native.Nat.{ℕ}
 use native.Mathlib.Omega.{arith}
 use borrow.Author.Tests.{lt-ltb, le-ltb, eq-eqb, ne-eqb}
 use lib.Dec.{eqb, ltb}
@@ -14,7 +14,7 @@ use types.Run.{OneOf}
 use denote.Enum.Declared.{tagOf, declared}
 use Rattle.octets.specs.Tests.{partOf}
 use Rattle.octets.proofs.Places.{its-bytes}
-use Rattle.keytable.specs.Row.{nameMax, keySize, useOf, keyOf}
+use Rattle.keytable.specs.Row.{keySize, useOf, keyOf}
 use Rattle.keytable.specs.Table.{tableOk, rowFor, rowAt}
 use Rattle.keytable.proofs.Calls.{rows-accepted, broken-refused}
 use Rattle.record.specs.Record.{modeIn, countIn, nameSize, nameIn}
@@ -24,9 +24,8 @@ use Rattle.record.specs.Open.{authenticBy, plaintextBy}
 use Rattle.record.proofs.Numbers.{open-one, open-four, open-five, open-six, open-seven, open-nine, open-zero}
 use Rattle.record.specs.declared.header.Header.{Header}
 use Rattle.record.specs.declared.header.Header.the-variants.{Fields, BadForm, BadMode, TooLong}
-use Rattle.record.proofs.Reading.{Accepted, accepted, name-short, open-unread}
+use Rattle.record.proofs.Reading.{Accepted, accepted, open-unread}
 use Rattle.record.proofs.Apart.{tag-wrong, tag-was-right}
-use Rattle.octets.proofs.Tests.{part-short}
 use Rattle.keytable.proofs.RowFound.{no-row, the-row, row-key}
 use borrow.Author.Needs.{needs}
 use Rattle.record.proofs.opening.open.Statement.{statement}
@@ -89,12 +88,6 @@ name-is : (c : tie.After-part) → c .part .result .now ≡ nameIn (start (check
 unfolding nameIn
 name-is c = c .part .ensures ∙ ap (partOf (start (checked (known (c .before))) .args .r .now) 24) (is-read (known (c .before)) .size-is)
 
-name-fits : (c : tie.After-part) → length (c .part .result .now) ≤ nameMax
-name-fits c =
-    let is = is-read (known (c .before)) in
-    let a = start (checked (known (c .before))) .args in
-    omega (arith, ap length (c .part .ensures), part-short (a .r .now) 24 (known (c .before) .before .h .given .0 .1 .0), is .size-is, name-short (a .r .now) (is .short))
-
 returns-5 : tie.Need-returns-5
 returns-5 c =
     let at-find = c .before in
@@ -103,7 +96,7 @@ returns-5 c =
     let is = is-read (known past) in
     let ok = table-good (checked (known past)) in
     open-six _ _ _ _ _ _ ok (is .layout) (is .mode-ok) (long (known past) false (le-ltb _ _ (past .before .if1 .left))) (roomy past)
-    (ap (rowFor _) (sym (name-is at-part)) ∙ no-row _ _ (at-find .find .result) ok (name-fits at-part) (at-find .find .ensures) (c .match3 .keys2))
+    (ap (rowFor _) (sym (name-is at-part)) ∙ no-row _ _ (at-find .find .result) ok (at-find .find .ensures) (c .match3 .keys2))
 
 -- the row that was found is that of the record's name
 found : (c : tie.After-at) → let a = start (checked (known (c .before .before .before .before))) .args in
@@ -112,8 +105,8 @@ found c =
     let at-find = c .before .before in
     let at-part = at-find .before in
     let ok = table-good (checked (known (at-part .before))) in (
-      ap (rowFor _) (sym (name-is at-part)) ∙ the-row _ _ _ ok (name-fits at-part) (at-find .find .ensures) _ (c .at .given .1),
-      row-key _ _ _ ok (name-fits at-part) (at-find .find .ensures) _ (c .at .given .1),
+      ap (rowFor _) (sym (name-is at-part)) ∙ the-row _ _ _ ok (at-find .find .ensures) _ (c .at .given .1),
+      row-key _ _ _ ok (at-find .find .ensures) _ (c .at .given .1),
     )
 
 returns-6 : tie.Need-returns-6

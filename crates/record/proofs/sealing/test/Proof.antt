@@ -61,7 +61,7 @@ returns-5 c =
     let past = roomy .before in
     let ok = accepted (past .before .before .before) in
     ready-six _ _ _ _ _ _ _ ok (past .before .before .if1 .left) (short past) (le-ltb _ _ (roomy .if3 .left))
-    (no-row _ _ (c .before .find .result) ok (small past .0) (c .before .find .ensures) (c .match2 .keys2))
+    (no-row _ _ (c .before .find .result) ok (c .before .find .ensures) (c .match2 .keys2))
 
 -- past the lookup: the row, the tests before it, and the use
 module _ (c : tie.After-use-at) where
@@ -81,14 +81,14 @@ returns-6 : tie.Need-returns-6
 returns-6 c =
     let at = c .before .before in
     ready-seven _ _ _ _ _ _ _ (good at) (past at .before .before .if1 .left) (short (past at)) (le-ltb _ _ (roomy at .if3 .left)) _
-    (the-row _ _ _ (good at) (small (past at) .0) (placed at .before .before .find .ensures) _ (placed at .at .given .1))
+    (the-row _ _ _ (good at) (placed at .before .before .find .ensures) _ (placed at .at .given .1))
     (ap permitted (sym (at .use-at .ensures)) ∙ (sym (c .before .is-permitted .ensures) ∙ not-true (c .before .is-permitted .result) (c .if4 .taken)))
 
 returns-7 : tie.Need-returns-7
 returns-7 c =
     let at = c .before .before in
     ready-zero _ _ _ _ _ _ _ (good at) (past at .before .before .if1 .left) (short (past at)) (le-ltb _ _ (roomy at .if3 .left)) _
-    (the-row _ _ _ (good at) (small (past at) .0) (placed at .before .before .find .ensures) _ (placed at .at .given .1))
+    (the-row _ _ _ (good at) (placed at .before .before .find .ensures) _ (placed at .at .given .1))
     (ap permitted (sym (at .use-at .ensures)) ∙ (sym (c .before .is-permitted .ensures) ∙ not-false (c .before .is-permitted .result) (c .if4 .left)))
 
 pub test-spec : {M : Type 1} → statement M
