@@ -1,12 +1,12 @@
 -- The counter block as the code writes it, and the tests of lengths and of the counter field.
 -- Assumes nothing.
-use mathlib.Core.Path.{_≡_, refl, sym, ap, ap₂, _∙_}
+use mathlib.Core.Path.{_≡_, refl, ap, ap₂, _∙_}
 use mathlib.Core.Bool.{Bool, true, false, not}
 use mathlib.Core.List.{List, [], _∷_, _++_, append-nil}
-use Prim.Native.Nat.{ℕ, _+_, _-_, _/_, _%_, _^_, _≤_, _<_}
+use Prim.Native.Nat.{ℕ, _+_, _/_, _%_, _^_, _≤_, _<_}
 use native.Mathlib.Nat.{div-one}
 use native.Mathlib.Omega.{arith}
-use borrow.Author.Tests.{ltb-true, ltb-false, leb-true, leb-false, lt-ltb, le-ltb, le-leb}
+use borrow.Author.Tests.{leb-true, leb-false, lt-ltb, le-ltb, le-leb}
 use lib.Dec.{ltb, leb, lit≤}
 use lib.ListN.{length, set, take, drop, length-set, drop-of-length-le}
 use lib.Seq.{sets-eq, set-split, take-set-le, drop-at, length-take-le}
@@ -41,14 +41,6 @@ module _ (base : List ℕ) (i : ℕ) (size : length base ≡ 16) where
       (ap (drop 13) narrow-stored ∙ drop-at (take 13 base) (i / 65536 % 256 ∷ i / 256 % 256 ∷ i % 256 ∷ []) 13 (length-take-le 13 base (omega arith))))
 
 -- ---- tests
-
--- a sum's limit, tested without the sum
-pub ltb-less : (o t m : ℕ) → t ≤ o → ltb (o - t) m ≡ ltb o (t + m)
-ltb-less o t m h = go (ltb (o - t) m) refl
-  where
-    go : (b : Bool) → ltb (o - t) m ≡ b → b ≡ ltb o (t + m)
-    go true e = sym (lt-ltb o (t + m) (omega (arith, ltb-true (o - t) m e)))
-    go false e = sym (le-ltb o (t + m) (omega (arith, ltb-false (o - t) m e)))
 
 -- a maximum is passed by the associated data, or else by the text
 module _ (a b s : List ℕ) where
