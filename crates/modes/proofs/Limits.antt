@@ -1,9 +1,9 @@
--- The counter block as the code writes it, and the tests of lengths and of the counter field.
+-- The counter block as the code writes it, groups of counters, and the tests of lengths and of the counter field.
 -- Assumes nothing.
 use mathlib.Core.Path.{_≡_, refl, ap, ap₂, _∙_}
 use mathlib.Core.Bool.{Bool, true, false, not}
 use mathlib.Core.List.{List, [], _∷_, _++_, append-nil}
-use Prim.Native.Nat.{ℕ, _+_, _/_, _%_, _^_, _≤_, _<_}
+use Prim.Native.Nat.{ℕ, _+_, _-_, _*_, _/_, _%_, _^_, _≤_, _<_}
 use native.Mathlib.Nat.{div-one}
 use native.Mathlib.Omega.{arith}
 use borrow.Author.Tests.{leb-true, leb-false, lt-ltb, le-ltb, le-leb}
@@ -39,6 +39,22 @@ module _ (base : List ℕ) (i : ℕ) (size : length base ≡ 16) where
       ∙ take-set-le 12 (set base 13 (i / 65536 % 256)) 14 (i / 256 % 256) (lit≤ tt)
       ∙ take-set-le 12 base 13 (i / 65536 % 256) (lit≤ tt))
       (ap (drop 13) narrow-stored ∙ drop-at (take 13 base) (i / 65536 % 256 ∷ i / 256 % 256 ∷ i % 256 ∷ []) 13 (length-take-le 13 base (omega arith))))
+
+-- ---- groups of counters that differ in the last byte alone, and blocks that are left from place `at` on
+
+module _ (k : ℕ) where
+  pub group-some : 0 < 256 - k % 256
+  group-some = omega arith
+
+  pub group-fits : (n : ℕ) → n ≤ 16 * (256 - k % 256) → n + 16 * (k % 256) ≤ 4096
+  group-fits n h = omega arith
+
+module _ (at n : ℕ) where
+  pub block-within : 16 ≤ n - at → at + 16 ≤ n
+  block-within h = omega arith
+
+  pub pair-within : 32 ≤ n - at → (at + 16 ≤ n) × (at + 16 + 16 ≤ n)
+  pair-within h = (omega arith, omega arith)
 
 -- ---- tests
 

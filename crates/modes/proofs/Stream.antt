@@ -137,10 +137,24 @@ module _ {f : List ℕ → List ℕ} {w : ℕ} {front : List ℕ} {i : ℕ} {s b
   pub partly-start : Partly f w front i s before 0 i before
   partly-start = record { inside = omega arith; room = refl; counted = omega arith; written = refl; kept = refl }
 
-  -- a part of it from there on, as it is lent
-  pub partly-part : {at k : ℕ} {out : List ℕ} → Partly f w front i s before at k out → length s ≤ length before → (e : ℕ) → e ≤ length s
-      → length (take (e - at) (drop at out)) ≡ e - at
-  partly-part {at} {k} {out} p fits e le = part-length out at e (omega (arith, p .room))
+  -- a place of the text is one of the output
+  pub partly-room : {at k e : ℕ} {out : List ℕ} → Partly f w front i s before at k out → length s ≤ length before → e ≤ length s → e ≤ length out
+  partly-room p fits h = omega (arith, p .room)
+
+  -- b bytes of the text from there on, or all that there is, and the part of the output for them, as they are lent
+  pub partly-lent : {at k : ℕ} {out : List ℕ} → Partly f w front i s before at k out → length s ≤ length before → (b e : ℕ) → at < length s
+      → e ≡ at + min b (length s - at)
+      → (length (take (e - at) (drop at s)) ≤ b) × (length (take (e - at) (drop at out)) ≡ length (take (e - at) (drop at s)))
+  partly-lent {at} {k} {out} p fits b e less end =
+      let text = part-length s at e (omega arith) in
+      (omega (arith, text), part-length out at e (omega (arith, p .room)) ∙ sym text)
+
+  -- all that is left
+  pub partly-rest : {at k : ℕ} {out : List ℕ} → Partly f w front i s before at k out → length s ≤ length before
+      → (length (take (length s - at) (drop at s)) ≡ length s - at) × (length (take (length s - at) (drop at out)) ≡ length (take (length s - at) (drop at s)))
+  partly-rest {at} {k} {out} p fits =
+      let text = part-length s at (length s) (omega arith) in
+      (text, part-length out at (length s) (omega (arith, p .room)) ∙ sym text)
 
   module _ {at k : ℕ} {out : List ℕ} (p : Partly f w front i s before at k out) (fits : length s ≤ length before) (size : (x : List ℕ) → length (f x) ≡ 16) where
     -- m blocks more, or all that there is, up to place e

@@ -1,4 +1,4 @@
--- Decryption undoes encryption, both ways, for CCM and for GCM, and each call has one answer: as statements; proofs/Laws.antt proves each.
+-- Decryption undoes encryption, both ways, and each call has one answer: as statements of any mode, which proofs/Laws.antt proves of CCM and of GCM.
 -- Assumes nothing.
 use mathlib.Core.Path.{_≡_}
 use mathlib.Core.Logic.{_↔_}

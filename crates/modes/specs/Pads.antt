@@ -15,6 +15,7 @@ use Rattle.modes.specs.Counter.{counterBlock}
 abbrev pub padOf : Tables → List State → Start → List ℕ → List ℕ
 padOf t ks s b = cipherFrom t ks s (getD b 0 0 % 256)
 
+-- its every value has 16 bytes
 abbrev pub Sized : (List ℕ → List ℕ) → Type 0
 Sized f = (x : List ℕ) → length (f x) ≡ 16
 

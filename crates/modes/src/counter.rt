@@ -1,5 +1,4 @@
 // Counter mode, which CCM and GCM share: the field of a counter block is four bytes where it is wide, and else three.
-use crate::parts::block_end;
 use aes_fast::encrypt_from;
 use aes_fast::encrypt_two_from;
 use aes_fast::halves::Halves;
@@ -78,7 +77,9 @@ pub(crate) fn add_at(text: &[u8], at: usize, pad: Halves, out: &mut [u8])
     requires { ⌜ (at + 16 ≤ length (now text)) × (at + 16 ≤ length (now out)) ⌝ }
     ensures { λ _. ⌜ now (out .exit) ≡ take at (now (out .entry)) ++ (xors (take 16 (drop at (now (text .entry)))) (halvesBlock pad) ++ drop 16 (drop at (now (out .entry)))) ⌝ }
 {
-    put_halves(&mut out[at..], add_halves(halves_at(text, at), pad));
+    let block = halves_at(text, at);
+    let sum = add_halves(block, pad);
+    put_halves(&mut out[at..], sum);
 }
 
 // What the counters share that differ from k in the last byte alone.
@@ -108,6 +109,14 @@ fn add_single(
     ensures { λ _. ⌜ now (out .exit) ≡ ctr (padOf (now (t .entry)) (now (ks .entry)) s) 1 [] k (now (text .entry)) ⌝ }
 {
     add_last(text, block(encrypt_from(t, ks, s, (k % 256) as u8)), out);
+}
+
+// The end of the block that starts at `at`: 16 bytes on, or the end of all n.
+fn block_end(at: usize, n: usize) -> usize
+    requires { ⌜ at < n ⌝ }
+    ensures { λ r. ⌜ r ≡ at + min 16 (n - at) ⌝ }
+{
+    if n - at < 16 { n } else { at + 16 }
 }
 
 // Less than two blocks, from counter i on.

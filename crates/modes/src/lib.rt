@@ -3,7 +3,6 @@ mod arguments;
 mod ccm;
 mod counter;
 mod gcm;
-mod parts;
 mod passes;
 mod tag;
 
@@ -11,7 +10,7 @@ use aes::expand_key;
 use aes_fast::round_tables;
 use arguments::argument_number;
 use arguments::wrong_sizes;
-use parts::key_of;
+use octets::strings::put;
 ghost use mathlib.Core.Path.{_≡_};
 ghost use mathlib.Core.List.{_++_};
 ghost use Prim.Native.Nat.{_+_, _≤_};
@@ -39,6 +38,15 @@ pub fn tag_size(u: u8) -> usize
     ensures { λ r. ⌜ r ≡ modeOf u .tagSize ⌝ }
 {
     16
+}
+
+fn key_of(key: &[u8]) -> [u8; 32]
+    requires { ⌜ length (now key) ≡ 32 ⌝ }
+    ensures { λ r. ⌜ r ≡ now (key .entry) ⌝ }
+{
+    let mut k = [0u8; 32];
+    put(&mut k, key);
+    k
 }
 
 // The tables and the round keys are made once, and lent down.

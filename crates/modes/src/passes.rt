@@ -130,7 +130,8 @@ fn open_block(
     requires { ⌜ Ready (now t) (now ks) ⌝ }
     ensures { λ r. ⌜ (halvesBlock (r .one) ≡ cipher (now (ks .entry)) (xors (halvesBlock y) (xors (halvesBlock c) (halvesBlock pad)))) × (halvesBlock (r .other) ≡ cipherFrom (now (t .entry)) (now (ks .entry)) s low) ⌝ }
 {
-    encrypt_beside(t, ks, add_halves(y, add_halves(c, pad)), s, low)
+    let x = add_halves(c, pad);
+    encrypt_beside(t, ks, add_halves(y, x), s, low)
 }
 
 // The chain along a last part, shorter than a block, of the plaintext that a ciphertext gives, with counter k.

@@ -2,15 +2,15 @@
 -- Assumes nothing.
 use mathlib.Core.Path.{sym, _∙_}
 use mathlib.Core.List.{[]}
-use Prim.Native.Nat.{ℕ, _+_, _-_}
+use Prim.Native.Nat.{ℕ, _+_, _-_, _≤_}
 use native.Mathlib.Omega.{arith}
 use borrow.Author.Needs.{needs}
 use lib.ListN.{length}
 use Rattle.octets.proofs.Lent.{over-whole}
 use Rattle.aes.proofs.Laws.{cipher-length}
 use Rattle.modes.specs.Pads.{padOf, Sized}
-use Rattle.modes.proofs.Written.{part-length}
-use Rattle.modes.proofs.Stream.{Partly, partly-start, partly-part, partly-block, partly-last, length-ctr}
+use Rattle.modes.proofs.Limits.{pair-within}
+use Rattle.modes.proofs.Stream.{Partly, partly-start, partly-room, partly-rest, partly-block, partly-last, length-ctr}
 use Rattle.modes.proofs.Grouped.{pad-counter, serves-sized, serves-text}
 use Rattle.modes.proofs.counter.group.Statement.{statement}
 use Rattle.modes.proofs.counter.group.Tie as tie
@@ -21,6 +21,9 @@ Inv-loop t ks wide i text out₀ n s at₀ k₀ out at k = Partly (padOf t ks s)
 abbrev μ-loop : tie.MeasureT-loop
 μ-loop t ks wide i text out₀ n s at₀ k₀ out at k = length text - at
 
+fits : (c : tie.Start Inv-loop μ-loop) → length (c .args .text .now) ≤ length (c .args .out .now)
+fits c = omega (arith, c .pre .1)
+
 sized : (c : tie.After-start-at Inv-loop μ-loop) → Sized (padOf (c .before .before .before .args .t .now) (c .before .before .before .args .ks .now) (c .start-at .result))
 sized c = serves-sized (c .start-at .ensures) (cipher-length (c .before .before .before .args .ks .now))
 
@@ -29,14 +32,16 @@ first : (c : tie.After-add-at Inv-loop μ-loop)
     → (let at-loop = c .before .before .before .before in
     let begun = at-loop .before in
     let a = begun .before .before .before .args in
-    Partly (padOf (a .t .now) (a .ks .now) (begun .start-at .result)) 1 [] (a .i) (a .text .now) (a .out .now) (at-loop .loop .at + 16) (at-loop .loop .k + 1) (c .add-at .last .1 .1 .1 .0))
+    Partly (padOf (a .t .now) (a .ks .now) (begun .start-at .result)) 1 [] (a .i) (a .text .now) (a .out .now) (at-loop .loop .at + 16) (at-loop .loop .k + 1)
+    (c .add-at .last .1 .1 .1 .0))
 first c =
-    let at-loop = c .before .before .before .before in
+    let ciphered = c .before .before in
+    let at-loop = ciphered .before .before in
     let begun = at-loop .before in
     let a = begun .before .before .before .args in
     let l = at-loop .loop in
-    partly-block (l .inv) (omega arith) (sized begun) (omega arith)
-    (c .before .before .encrypt-two-from .ensures .0 ∙ sym (pad-counter (a .t .now) (a .ks .now) (begun .start-at .result) (l .k))) (c .add-at .ensures)
+    partly-block (l .inv) (fits (begun .before .before .before)) (sized begun) (pair-within (l .at) (length (a .text .now)) (ciphered .before .loop-test .taken) .0)
+    (ciphered .encrypt-two-from .ensures .0 ∙ sym (pad-counter (a .t .now) (a .ks .now) (begun .start-at .result) (l .k))) (c .add-at .ensures)
 
 start-at-requires : tie.Need-start-at-requires Inv-loop μ-loop
 start-at-requires c κs = c .before .before .pre .0
@@ -44,32 +49,36 @@ start-at-requires c κs = c .before .before .pre .0
 loop-holds : tie.Need-loop-holds Inv-loop μ-loop
 loop-holds c = partly-start
 
+add-at-requires : tie.Need-add-at-requires Inv-loop μ-loop
+add-at-requires c κs =
+    let more = pair-within (c .before .before .before .loop .at) (length (c .before .before .before .before .before .before .before .args .text .now)) (c .before .before .loop-test .taken) in
+    (more .0, partly-room (c .before .before .before .loop .inv) (fits (c .before .before .before .before .before .before .before)) (more .0))
+
 add-at-requires-2 : tie.Need-add-at-requires-2 Inv-loop μ-loop
-add-at-requires-2 c κs = (omega arith, omega (arith, first (c .before .before .before) .room))
+add-at-requires-2 c κs =
+    let more = pair-within (c .before .before .before .before .before .before .before .loop .at) (length (c .before .before .before .before .before .before .before .before .before .before .before .args .text .now)) (c .before .before .before .before .before .before .loop-test .taken) in
+    (more .1, partly-room (first (c .before .before .before)) (fits (c .before .before .before .before .before .before .before .before .before .before .before)) (more .1))
 
 loop-again : tie.Need-loop-again Inv-loop μ-loop
 loop-again c =
-    let at-loop = c .before .before .before .before .before .before .before .before .before .before in
     let a = c .before .before .before .before .before .before .before .before .before .before .before .before .before .before .args in
-    let l = at-loop .loop in
-    let s = c .before .before .before .before .before .before .before .before .before .before .before .start-at .result in
-    partly-block (first (c .before .before .before .before .before .before)) (omega arith) (sized (c .before .before .before .before .before .before .before .before .before .before .before)) (omega arith)
-    (c .before .before .before .before .before .before .before .before .encrypt-two-from .ensures .1 ∙ sym (pad-counter (a .t .now) (a .ks .now) s (l .k + 1))) (c .before .before .add-at2 .ensures)
+    let begun = c .before .before .before .before .before .before .before .before .before .before .before in
+    partly-block (first (c .before .before .before .before .before .before)) (fits (c .before .before .before .before .before .before .before .before .before .before .before .before .before .before)) (sized begun) (pair-within (c .before .before .before .before .before .before .before .before .before .before .loop .at) (length (c .before .before .before .before .before .before .before .before .before .before .before .before .before .before .args .text .now)) (c .before .before .before .before .before .before .before .before .before .loop-test .taken) .1)
+    (c .before .before .before .before .before .before .before .before .encrypt-two-from .ensures .1 ∙ sym (pad-counter (a .t .now) (a .ks .now) (begun .start-at .result) (c .before .before .before .before .before .before .before .before .before .before .loop .k + 1)))
+    (c .before .before .add-at2 .ensures)
 
 add-rest-requires : tie.Need-add-rest-requires Inv-loop μ-loop
 add-rest-requires c κs =
-    let start = c .before .before .before .before .before .before .before in
     let l = c .before .before .before .loop in
-    let n = length (start .args .text .now) in
-    let text = part-length (start .args .text .now) (l .at) n (omega arith) in
-    (sized (c .before .before .before .before), omega (arith, text), partly-part (l .inv) (omega arith) n (omega arith) ∙ sym text, omega (arith, l .inv .counted))
+    let left = partly-rest (l .inv) (fits (c .before .before .before .before .before .before .before)) in
+    (sized (c .before .before .before .before), omega (arith, left .0), left .1, omega (arith, l .inv .counted))
 
 returns : tie.Need-returns Inv-loop μ-loop
 returns c =
     let start = c .before .before .before .before .before .before .before .before .before .before in
     let begun = c .before .before .before .before .before .before .before in
     let a = start .args in
-    partly-last (c .before .before .before .before .before .before .loop .inv) (omega arith) (sized begun) (c .before .before .add-rest .ensures)
+    partly-last (c .before .before .before .before .before .before .loop .inv) (fits start) (sized begun) (c .before .before .add-rest .ensures)
     ∙ over-whole _ (a .out .now) (length-ctr (padOf (a .t .now) (a .ks .now) (begun .start-at .result)) (sized begun) 1 [] (a .i) (a .text .now) ∙ sym (start .pre .1))
     ∙ serves-text (begun .start-at .ensures) (a .text .now) (start .pre .2)
 
@@ -82,7 +91,8 @@ group-spec =
     start-at-requires
     loop-holds
     (λ c. search needs) (λ c. search needs) (λ c. search needs) (λ c. search needs)
-    (λ c. search needs) (λ c κs. search needs) (λ c κs. search needs)
+    (λ c. search needs) (λ c κs. search needs)
+    add-at-requires
     add-at-requires-2
     (λ c. search needs) (λ c. search needs) (λ c. search needs)
     loop-again

@@ -1,15 +1,15 @@
 -- `modes::counter::run` meets its contract: a group a turn.
 -- Assumes nothing.
-use mathlib.Core.Path.{refl, sym, _∙_}
-use Prim.Native.Nat.{ℕ, _+_, _-_, _/_, _%_}
+use mathlib.Core.Path.{refl}
+use Prim.Native.Nat.{ℕ, _+_, _-_, _*_, _/_, _%_}
 use native.Mathlib.Omega.{arith}
 use borrow.Author.Needs.{needs}
 use lib.ListN.{length}
 use Rattle.aes.specs.Cipher.{cipher}
 use Rattle.aes.proofs.Laws.{cipher-length}
 use Rattle.modes.specs.Counter.{width, frontOf}
-use Rattle.modes.proofs.Written.{part-length}
-use Rattle.modes.proofs.Stream.{Partly, partly-start, partly-part, partly-most, partly-end}
+use Rattle.modes.proofs.Limits.{group-some, group-fits}
+use Rattle.modes.proofs.Stream.{Partly, partly-start, partly-lent, partly-most, partly-end}
 use Rattle.modes.proofs.counter.run.Statement.{statement}
 use Rattle.modes.proofs.counter.run.Tie as tie
 
@@ -26,9 +26,9 @@ group-requires : tie.Need-group-requires Inv-loop μ-loop
 group-requires c κs =
     let start = c .before .before .before .before .before .before .before in
     let l = c .before .before .before .before .loop in
-    let e = c .before .before .group-end .result in
-    let text = part-length (start .args .text .now) (l .from) e (omega arith) in
-    (start .pre .0, partly-part (l .inv) (start .pre .1) e (omega arith) ∙ sym text, omega (arith, text), omega (arith, l .inv .counted))
+    let ended = c .before .before .group-end in
+    let lent = partly-lent (l .inv) (start .pre .1) (16 * (256 - l .k % 256)) (ended .result) (c .before .before .before .loop-test .taken) (ended .ensures) in
+    (start .pre .0, lent .1, group-fits (l .k) _ (lent .0), omega (arith, l .inv .counted))
 
 add-k-2 : tie.Need-add-k-2 Inv-loop μ-loop
 add-k-2 c = omega (arith, c .before .before .before .before .before .before .before .loop .inv .counted)
@@ -39,7 +39,7 @@ loop-again c =
     let l = c .before .before .before .before .before .before .before .loop in
     let ended = c .before .before .before .before .before .group-end in
     partly-most (l .inv) (start .pre .1) (cipher-length (start .args .ks .now)) (256 - l .k % 256) (ended .result) ((ended .result - l .from + 15) / 16)
-    (c .before .before .before .before .before .before .loop-test .taken) (omega arith) (ended .ensures) refl (c .before .before .group .ensures)
+    (c .before .before .before .before .before .before .loop-test .taken) (group-some (l .k)) (ended .ensures) refl (c .before .before .group .ensures)
 
 same-length : tie.Need-same-length Inv-loop μ-loop
 same-length c = c .before .loop .inv .room

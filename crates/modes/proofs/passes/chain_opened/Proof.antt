@@ -16,6 +16,7 @@ use Rattle.aes_fast.specs.Halves.{halvesBlock}
 use Rattle.aes_fast.proofs.Laws.{block-at-whole}
 use Rattle.modes.specs.Counter.{counterBlock, ctr, frontOf}
 use Rattle.modes.specs.Pads.{Serves}
+use Rattle.modes.proofs.Limits.{block-within}
 use Rattle.modes.proofs.Written.{part-length}
 use Rattle.modes.proofs.Opened.{opened-turn}
 use Rattle.modes.proofs.passes.chain_opened.Statement.{statement}
@@ -59,15 +60,16 @@ loop-again c =
     let F = cipher (a .ks .now) in
     let front = frontOf false (a .base) in
     let serves = c .before .before .before .before .renewed .ensures in
-    let both = c .before .before .open-block .ensures in (
-      omega arith,
+    let both = c .before .before .open-block .ensures in
+    let more = block-within (c .before .before .before .before .before .before .loop .at) (length (c .before .before .before .before .before .before .before .before .before .before .before .args .c .now)) (c .before .before .before .before .before .loop-test .taken) in (
+      more,
       omega arith,
       serves,
       both .1 ∙ serves .pads (l .k + 1) refl,
       ap (λ (y : List ℕ). chain F y (cut (ctr F 3 front (l .k + 1) (drop (l .at + 16) (a .c .now)))))
           (both .0
-          ∙ ap₂ (λ (b q : List ℕ). F (xors (halvesBlock (l .h)) (xors b q))) (c .before .before .before .halves-at .ensures ∙ block-at-whole (a .c .now) (l .at) (omega arith)) (l .inv .3))
-          ∙ opened-turn F (cipher-length (a .ks .now)) 3 front (halvesBlock (l .h)) (a .c .now) (l .k) (l .at) (omega arith)
+          ∙ ap₂ (λ (b q : List ℕ). F (xors (halvesBlock (l .h)) (xors b q))) (c .before .before .before .halves-at .ensures ∙ block-at-whole (a .c .now) (l .at) more) (l .inv .3))
+          ∙ opened-turn F (cipher-length (a .ks .now)) 3 front (halvesBlock (l .h)) (a .c .now) (l .k) (l .at) more
           ∙ l .inv .4,
     )
 

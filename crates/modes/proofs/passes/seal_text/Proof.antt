@@ -1,6 +1,6 @@
 -- `modes::passes::seal_text` meets its contract: a block a turn is chained and written, the start serves its counter, and then the last part.
 -- Assumes nothing.
-use mathlib.Core.Path.{_≡_, refl, sym, ap, ap₂, _∙_}
+use mathlib.Core.Path.{_≡_, refl, ap, ap₂, _∙_}
 use mathlib.Core.Bool.{false}
 use mathlib.Core.List.{List}
 use Prim.Native.Nat.{ℕ, _+_, _-_}
@@ -14,8 +14,8 @@ use Rattle.aes.proofs.Laws.{cipher-length}
 use Rattle.aes_fast.specs.Halves.{halvesBlock}
 use Rattle.modes.specs.Counter.{frontOf}
 use Rattle.modes.specs.Pads.{Serves}
-use Rattle.modes.proofs.Written.{part-length}
-use Rattle.modes.proofs.Stream.{Partly, partly-start, partly-part, partly-block, partly-last}
+use Rattle.modes.proofs.Limits.{block-within}
+use Rattle.modes.proofs.Stream.{Partly, partly-start, partly-room, partly-rest, partly-block, partly-last}
 use Rattle.modes.proofs.Beside.{chain-turn}
 use Rattle.modes.proofs.passes.seal_text.Statement.{statement}
 use Rattle.modes.proofs.passes.seal_text.Tie as tie
@@ -37,7 +37,7 @@ loop-holds c = (c .start-at .ensures, refl, partly-start)
 
 seal-block-requires : tie.Need-seal-block-requires Inv-loop μ-loop
 seal-block-requires c κs =
-    let l = c .before .before .loop in (c .before .before .before .before .before .before .before .pre .0, omega arith, omega (arith, l .inv .2 .room))
+    let more = block-within (c .before .before .loop .at) (length (c .before .before .before .before .before .before .before .args .p .now)) (c .before .loop-test .taken) in (c .before .before .before .before .before .before .before .pre .0, more, partly-room (c .before .before .loop .inv .2) (c .before .before .before .before .before .before .before .pre .1) more)
 
 renewed-requires : tie.Need-renewed-requires Inv-loop μ-loop
 renewed-requires c κs =
@@ -49,19 +49,16 @@ loop-again c =
     let a = start .args in
     let l = c .before .before .before .before .before .before .loop in
     let sealed = c .before .before .before .seal-block .ensures in
+    let more = block-within (c .before .before .before .before .before .before .loop .at) (length (c .before .before .before .before .before .before .before .before .before .before .before .args .p .now)) (c .before .before .before .before .before .loop-test .taken) in
     let F = cipher (a .ks .now) in (
       c .renewed .ensures,
-      ap (λ (y : List ℕ). chain F y (cut (drop (l .at + 16) (a .p .now)))) (sealed .0) ∙ chain-turn F (halvesBlock (l .h)) (a .p .now) (l .at) (omega arith) ∙ l .inv .1,
-      partly-block (l .inv .2) (start .pre .1) (cipher-length (a .ks .now)) (omega arith) (l .inv .0 .pads (l .k) refl) (sealed .1),
+      ap (λ (y : List ℕ). chain F y (cut (drop (l .at + 16) (a .p .now)))) (sealed .0) ∙ chain-turn F (halvesBlock (l .h)) (a .p .now) (l .at) more ∙ l .inv .1,
+      partly-block (l .inv .2) (start .pre .1) (cipher-length (a .ks .now)) more (l .inv .0 .pads (l .k) refl) (sealed .1),
     )
 
 seal-last-requires : tie.Need-seal-last-requires Inv-loop μ-loop
 seal-last-requires c κs =
-    let start = c .before .before .before .before .before .before .before .before .before in
-    let l = c .before .before .before .before .loop in
-    let n = length (start .args .p .now) in
-    let p = part-length (start .args .p .now) (l .at) n (omega arith) in
-    (start .pre .0, omega (arith, p), partly-part (l .inv .2) (start .pre .1) n (omega arith) ∙ sym p)
+    let left = partly-rest (c .before .before .before .before .loop .inv .2) (c .before .before .before .before .before .before .before .before .before .pre .1) in (c .before .before .before .before .before .before .before .before .before .pre .0, omega (arith, left .0), left .1)
 
 returns : tie.Need-returns Inv-loop μ-loop
 returns c =
