@@ -1,13 +1,12 @@
 mod Written
-mod Bytewise
 pub mod Limits
 pub mod Stream
 mod Grouped
 mod Beside
-pub mod Chained
 pub mod Formatted
 pub mod Opened
 pub mod Numbers
+pub mod Named
 pub mod BothWays
 pub mod CcmLaws
 pub mod Counted
