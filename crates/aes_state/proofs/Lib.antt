@@ -1,2 +1,3 @@
 pub mod Grid
+mod Products
 pub mod Laws

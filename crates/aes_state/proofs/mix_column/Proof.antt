@@ -1,7 +1,7 @@
--- `aes_state::mix_column` meets its contract: the products by {02} and {03} compute to what the code adds.
+-- `aes_state::mix_column` meets its contract: by the doubles that the calls ensure.
 -- Assumes nothing.
 use borrow.Author.Needs.{needs}
-use Rattle.aes_field.specs.Field.{times}
+use Rattle.aes_state.proofs.Products.{mixed}
 use Rattle.aes_state.proofs.mix_column.Statement.{statement}
 use Rattle.aes_state.proofs.mix_column.Tie as tie
 
@@ -30,8 +30,8 @@ double-requires-4 : tie.Need-double-requires-4
 double-requires-4 c κs = search needs
 
 returns : tie.Need-returns
-unfolding times
-returns c = rw (c .double4 .ensures, c .before .double3 .ensures, c .before .before .double2 .ensures, c .before .before .before .double .ensures)
+returns c =
+    mixed _ _ _ _ _ _ _ _ (c .before .before .before .double .ensures) (c .before .before .double2 .ensures) (c .before .double3 .ensures) (c .double4 .ensures)
 
 pub mix-column-spec : {M : Type 1} → statement M
 mix-column-spec =
