@@ -5,14 +5,23 @@ use crate::row::name_of;
 use crate::row::row_ok;
 use crate::sizes::HEAD_SIZE;
 use crate::sizes::ROW_SIZE;
-use octets::strings::part;
 ghost use mathlib.Core.Path.{_≡_};
-ghost use Prim.Native.Nat.{_≤_};
+ghost use Prim.Native.Nat.{_+_, _≤_};
 ghost use lib.ListN.{length, drop};
-ghost use Rattle.octets.specs.Tests.{all};
-ghost use Rattle.keytable.specs.Row.{rowOk};
+ghost use Rattle.octets.specs.Tests.{all, partOf};
+ghost use Rattle.keytable.specs.Row.{rowSize, rowOk};
 ghost use Rattle.keytable.specs.Table.{rowPlace, rowCount, rowsOf, distinct};
 ghost use Rattle.keytable.specs.Find.{foundSays, placeFrom};
+
+// Row number i.
+fn row(t: &[u8], i: usize) -> &[u8]
+    requires { ⌜ rowPlace i + rowSize ≤ length (now t) ⌝ }
+    ensures { λ r. ⌜ now r ≡ partOf (now (t .entry)) (rowPlace i) rowSize ⌝ }
+{
+    let at = HEAD_SIZE + ROW_SIZE * i;
+    let end = at + ROW_SIZE;
+    &t[at..end]
+}
 
 // Whether each row keeps to the layout.
 pub(crate) fn rows_ok(t: &[u8], r: usize) -> bool
@@ -21,7 +30,7 @@ pub(crate) fn rows_ok(t: &[u8], r: usize) -> bool
 {
     let mut i = 0;
     while i < r {
-        if !row_ok(part(t, HEAD_SIZE + ROW_SIZE * i, ROW_SIZE)) {
+        if !row_ok(row(t, i)) {
             return false;
         }
         i += 1;
@@ -36,9 +45,8 @@ pub(crate) fn find_from(t: &[u8], r: usize, from: usize, name: &[u8]) -> Found
 {
     let mut i = from;
     while i < r {
-        let at = HEAD_SIZE + ROW_SIZE * i;
-        if has_name(part(t, at, ROW_SIZE), name) {
-            return Found::At(at);
+        if has_name(row(t, i), name) {
+            return Found::At(HEAD_SIZE + ROW_SIZE * i);
         }
         i += 1;
     }
@@ -53,7 +61,7 @@ pub(crate) fn names_differ(t: &[u8], r: usize) -> bool
     let mut i = 0;
     while i < r {
         let next = i + 1;
-        let name = name_of(part(t, HEAD_SIZE + ROW_SIZE * i, ROW_SIZE));
+        let name = name_of(row(t, i));
         let Found::Nothing = find_from(t, r, next, name) else {
             return false;
         };

@@ -26,7 +26,7 @@ loop-holds c = (omega arith, refl)
 -- the name of row i
 name-is : (c : tie.After-name-of Inv-loop μ-loop)
     → c .name-of .result .now ≡ nameOf (partOf (c .before .before .before .before .before .args .t .now) (rowPlace (c .before .before .before .loop .i)) rowSize)
-name-is c = c .name-of .ensures ∙ ap nameOf (c .before .part .ensures)
+name-is c = c .name-of .ensures ∙ ap nameOf (c .before .row .ensures)
 
 returns : tie.Need-returns Inv-loop μ-loop
 returns c =
@@ -60,8 +60,6 @@ names-differ-spec =
     Inv-loop
     μ-loop
     loop-holds
-    (λ c. search needs)
-    (λ c. search needs)
     (λ c. search needs)
     (λ c κs. search needs)
     (λ c κs. search needs)
