@@ -17,7 +17,7 @@ use Rattle.record.specs.Record.{modeOf, modeFor, modeIn, countIn, nameSi
 use Rattle.record.specs.Read.{passes}
 use Rattle.record.specs.Seal.{callersMax}
 use Rattle.record.specs.Open.{authenticBy, plaintextBy}
-use Rattle.record.proofs.Numbers.{iv-size, tag-size, key-size}
+use Rattle.record.proofs.Numbers.{key-size}
 use Rattle.record.proofs.Parts.{length-frontIn, length-ivIn, length-textIn, length-tagIn}
 use Rattle.record.proofs.Reading.{Accepted, name-short, count-small}
 
@@ -50,16 +50,12 @@ parts-opened key r a out good short key-right aad-short room =
     (tooLong-short (frontIn r) a (textIn r) (omega (arith, length-frontIn r good, name-short r short)) (omega (arith, length-textIn r good, count-small r short)))
     (le-ltb (length out) (length (textIn r)) (omega (arith, length-textIn r good)))
 
--- the same, of parts cut by fields that were read, and by the lengths of both modes
-module _ (key r a out : List ℕ) (u k n : ℕ) (is : Accepted r u k n) (key-right : length key ≡ keySize) (aad-short : length a ≤ callersMax) (room : n ≤ length out) where
-  by-lengths : (v t : ℕ) → v ≡ modeFor r .ivSize → t ≡ modeFor r .tagSize
-      → decryptAnswer (modeOf u) key (partOf r (24 + k) v) (partOf r 0 (24 + k)) a (partOf r (24 + k + v) n) (partOf r (24 + k + v + n) t) out
-      ≡ answer (lowest ((9, not (authenticBy key r a)) ∷ [])) (plaintextBy key r) out
-  unfolding ivIn frontIn textIn tagIn
-  by-lengths v t ev et =
-      rw (ev, et, is .mode-is, is .size-is, is .count-is)
-      (parts-opened key r a out (is .layout) (is .short) key-right aad-short (omega (arith, is .count-is)))
-
-  pub fields-opened : decryptAnswer (modeOf u) key (partOf r (24 + k) 12) (partOf r 0 (24 + k)) a (partOf r (24 + k + 12) n) (partOf r (24 + k + 12 + n) 16) out
-      ≡ answer (lowest ((9, not (authenticBy key r a)) ∷ [])) (plaintextBy key r) out
-  fields-opened = by-lengths 12 16 (sym (iv-size (modeIn r))) (sym (tag-size (modeIn r)))
+-- the same, of parts cut by fields that were read, and by the mode's lengths
+pub fields-opened : (key r a out : List ℕ) (u k n v t : ℕ) → Accepted r u k n → v ≡ modeOf u .ivSize → t ≡ modeOf u .tagSize
+    → length key ≡ keySize → length a ≤ callersMax → n ≤ length out
+    → decryptAnswer (modeOf u) key (partOf r (24 + k) v) (partOf r 0 (24 + k)) a (partOf r (24 + k + v) n) (partOf r (24 + k + v + n) t) out
+    ≡ answer (lowest ((9, not (authenticBy key r a)) ∷ [])) (plaintextBy key r) out
+unfolding ivIn frontIn textIn tagIn
+fields-opened key r a out u k n v t is ev et key-right aad-short room =
+    rw (ev, et, is .mode-is, is .size-is, is .count-is)
+    (parts-opened key r a out (is .layout) (is .short) key-right aad-short (omega (arith, is .count-is)))

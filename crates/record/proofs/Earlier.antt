@@ -53,31 +53,31 @@ none-some : {row : List ℕ} → none ≡ some row → ⊥
 none-some q = let z : _≡_ {A = ℕ} 0 1 = cc in omega arith
 
 record-fits : (ok : Bool) (o : Option (List ℕ)) (name iv a p : List ℕ) (room : ℕ)
-    → Fits (sealNumber ok o name iv a p room) (sealedSize o name p) (recordBy o name iv a p) room
-record-fits ok none name iv a p room e = absurd (none-some (seal-row ok name iv a p room none e .1))
+    → Fits (sealNumber ok o name iv a (length p) room) (sealedSize o name (length p)) (recordBy o name iv a p) room
+record-fits ok none name iv a p room e = absurd (none-some (seal-row ok name iv a (length p) room none e .1))
 record-fits ok (some row) name iv a p room e =
-    let h = sealable ok name iv a p room row e in (length-recordOf (useOf row) (keyOf row) name iv a p (h .iv-long), h .fits)
+    let h = sealable ok name iv a (length p) room row e in (length-recordOf (useOf row) (keyOf row) name iv a p (h .iv-long), h .fits)
 
 pub seal-alike : SealEarlier
 unfolding sealRow
 seal-alike t name iv a p out out′ same =
-    answers-alike (number (length out)) (number (length out′)) (sealedSize (rowFor t name) name p) (recordBy (rowFor t name) name iv a p) out out′
+    answers-alike (number (length out)) (number (length out′)) (sealedSize (rowFor t name) name (length p)) (recordBy (rowFor t name) name iv a p) out out′
     (ap number same) same (record-fits (tableOk t) (rowFor t name) name iv a p (length out))
   where
     number : ℕ → ℕ
-    number room = sealNumber (tableOk t) (rowFor t name) name iv a p room
+    number room = sealNumber (tableOk t) (rowFor t name) name iv a (length p) room
 
 pub next-alike : NextEarlier
 unfolding sealNextRow
 next-alike s t name a p out out′ same = (
-  answers-alike (number (length out)) (number (length out′)) (sealedSize (rowFor t name) name p) (recordBy (rowFor t name) name (ivOf s) a p) out out′
+  answers-alike (number (length out)) (number (length out′)) (sealedSize (rowFor t name) name (length p)) (recordBy (rowFor t name) name (ivOf s) a p) out out′
       (ap number same) same
       (λ e. record-fits (tableOk t) (rowFor t name) name (ivOf s) a p (length out) (next-zero s (tableOk t) (rowFor t name) name a p (length out) e .0)),
   ap (λ (n : ℕ). sessionAfter (number n) s) same,
 )
   where
     number : ℕ → ℕ
-    number room = sealNextNumber s (tableOk t) (rowFor t name) name a p room
+    number room = sealNextNumber s (tableOk t) (rowFor t name) name a (length p) room
 
 -- ---- opening
 

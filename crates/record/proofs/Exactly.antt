@@ -9,7 +9,7 @@ use lib.ListN.{length}
 use Rattle.octets.specs.Bytes.{Bytes}
 use Rattle.keytable.specs.Row.{useOf, keyOf}
 use Rattle.modes.specs.Mode.{sealed}
-use Rattle.record.specs.Record.{permitted, modeOf, modeIn, modeFor, countIn, nameSize, layoutOk, frontIn, nameIn, ivIn, textIn, tagIn, front}
+use Rattle.record.specs.Record.{namesMode, modeOf, modeIn, modeFor, countIn, nameSize, layoutOk, frontIn, nameIn, ivIn, textIn, tagIn, front}
 use Rattle.record.specs.Seal.{recordOf}
 use Rattle.record.specs.Open.{authenticBy, plaintextBy}
 use Rattle.record.proofs.Parts.{layout-kept, parts-record, length-nameIn, length-ivIn, length-tagIn}
@@ -76,7 +76,7 @@ module _ (t r a out p : List ℕ) where
               few = omega (arith, size, h .able .few);
               little = h .able .little;
               fits = omega arith;
-              mode = ap permitted (h .able .use-is) ∙ h .able .mode;
+              mode = ap namesMode (h .able .use-is) ∙ h .able .mode;
             };
         is =
             ap₂ (λ (u : ℕ) (l : List ℕ). recordOf u (keyOf (h .row)) (nameIn r) (ivIn r) a l) (h .able .use-is) (sym (h .is))
@@ -101,7 +101,7 @@ module _ (t r a out p : List ℕ) where
             record {
               accepted = h .able .accepted;
               layout = read .layout;
-              mode = ap permitted mode-is ∙ h .able .mode;
+              mode = ap namesMode mode-is ∙ h .able .mode;
               short = omega (arith, read .fields .size, h .able .short);
               few = omega (arith, read .fields .count, h .able .few);
               little = h .able .little;

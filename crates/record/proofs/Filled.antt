@@ -20,16 +20,16 @@ use Rattle.octets.proofs.Lent.{over-front, over-then}
 use Rattle.record.specs.Record.{modeOf, endAt, header, front}
 use Rattle.record.specs.Seal.{callersMax, recordOf}
 use Rattle.record.proofs.Written.{length-front}
-use Rattle.record.proofs.Numbers.{each-mode, iv-size, key-size}
+use Rattle.record.proofs.Numbers.{each-mode, key-size}
 
 -- ---- the front
 
--- the header byte by byte
-pub header-bytes : (u k n : ℕ)
-    → 0 ∷ 1 ∷ u ∷ 0 ∷ n / 16777216 % 256 ∷ n / 65536 % 256 ∷ n / 256 % 256 ∷ n % 256 ∷ 0 ∷ 24 ∷ k / 256 % 256 ∷ k % 256 ∷ (24 + k) / 256 % 256 ∷ (24 + k) % 256 ∷ 0 ∷ 12 ∷ (24 + k + 12) / 16777216 % 256 ∷ (24 + k + 12) / 65536 % 256 ∷ (24 + k + 12) / 256 % 256 ∷ (24 + k + 12) % 256 ∷ (24 + k + 12 + n) / 16777216 % 256 ∷ (24 + k + 12 + n) / 65536 % 256 ∷ (24 + k + 12 + n) / 256 % 256 ∷ (24 + k + 12 + n) % 256 ∷ []
+-- the header byte by byte, v being the length of the mode's IV
+pub header-bytes : (u k n v : ℕ) → v ≡ modeOf u .ivSize
+    → 0 ∷ 1 ∷ u ∷ 0 ∷ n / 16777216 % 256 ∷ n / 65536 % 256 ∷ n / 256 % 256 ∷ n % 256 ∷ 0 ∷ 24 ∷ k / 256 % 256 ∷ k % 256 ∷ (24 + k) / 256 % 256 ∷ (24 + k) % 256 ∷ v / 256 % 256 ∷ v % 256 ∷ (24 + k + v) / 16777216 % 256 ∷ (24 + k + v) / 65536 % 256 ∷ (24 + k + v) / 256 % 256 ∷ (24 + k + v) % 256 ∷ (24 + k + v + n) / 16777216 % 256 ∷ (24 + k + v + n) / 65536 % 256 ∷ (24 + k + v + n) / 256 % 256 ∷ (24 + k + v + n) % 256 ∷ []
     ≡ header u k n
 unfolding header
-header-bytes u k n = rw (iv-size u, div-one n, div-one k, div-one (24 + k), div-one (24 + k + 12), div-one (24 + k + 12 + n))
+header-bytes u k n v e = rw (← e, div-one n, div-one k, div-one (24 + k), div-one v, div-one (24 + k + v), div-one (24 + k + v + n))
 
 pub front-cut : (u : ℕ) (name : List ℕ) (n : ℕ) (room : List ℕ) → length name ≤ nameMax → room ≡ over (front u name n) (replicate 56 0)
     → partOf room 0 (24 + length name) ≡ front u name n
@@ -58,12 +58,12 @@ module _ (u : ℕ) (key name iv a p out : List ℕ) (key-right : length key ≡ 
 
   -- the front and the IV are written, and then the rest
   pub filled : (d ys : List ℕ) (x : ℕ) → d ≡ over (front u name (length p) ++ iv) out
-      → encryptAnswer (modeOf u) key iv (front u name (length p)) a p (take (length d - (24 + length name + 12)) (drop (24 + length name + 12) d)) ≡ (x, ys)
-      → take (24 + length name + 12) d ++ (ys ++ drop (length d - (24 + length name + 12)) (drop (24 + length name + 12) d))
+      → encryptAnswer (modeOf u) key iv (front u name (length p)) a p (take (length d - (24 + length name + length iv)) (drop (24 + length name + length iv) d)) ≡ (x, ys)
+      → take (24 + length name + length iv) d ++ (ys ++ drop (length d - (24 + length name + length iv)) (drop (24 + length name + length iv) d))
       ≡ over (recordOf u key name iv a p) out
   unfolding recordOf
   filled d ys x first e =
-      over-then (F ++ iv) S out d ys (24 + length name + 12) size fits first (encrypted rest ys x rest-fits e)
+      over-then (F ++ iv) S out d ys (24 + length name + length iv) size fits first (encrypted rest ys x rest-fits e)
       ∙ ap (λ (l : List ℕ). over l out) (append-assoc F iv S)
     where
       F : List ℕ
@@ -73,16 +73,16 @@ module _ (u : ℕ) (key name iv a p out : List ℕ) (key-right : length key ≡ 
       S = sealed (modeOf u) key iv (F ++ a) p
 
       rest : List ℕ
-      rest = take (length d - (24 + length name + 12)) (drop (24 + length name + 12) d)
+      rest = take (length d - (24 + length name + length iv)) (drop (24 + length name + length iv) d)
 
-      size : length (F ++ iv) ≡ 24 + length name + 12
-      size = omega (arith, length-append F iv, length-front u name (length p), iv-right, iv-size u)
+      size : length (F ++ iv) ≡ 24 + length name + length iv
+      size = omega (arith, length-append F iv, length-front u name (length p))
 
-      fits : 24 + length name + 12 + length S ≤ length out
-      fits = omega (arith, sealed-size u key iv (F ++ a) p, iv-size u)
+      fits : 24 + length name + length iv + length S ≤ length out
+      fits = omega (arith, sealed-size u key iv (F ++ a) p)
 
       rest-fits : length p + modeOf u .tagSize ≤ length rest
-      rest-fits = simp (length-take, length-drop) (omega (arith, first-length, iv-size u))
+      rest-fits = simp (length-take, length-drop) (omega (arith, first-length))
         where
           first-length : length d ≡ length out
           first-length = ap length first ∙ length-over (F ++ iv) out

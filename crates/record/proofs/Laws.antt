@@ -9,14 +9,15 @@ use borrow.Author.Tests.{eqb-true}
 use lib.Dec.{eqb}
 use lib.ListN.{length, getD}
 use Rattle.octets.specs.Lent.{when}
-use Rattle.octets.proofs.Lent.{one-answer}
+use Rattle.octets.proofs.Unique.{unique, unique-by}
 use Rattle.keytable.specs.Row.{useOf, keyOf}
 use Rattle.keytable.specs.Table.{tableOk, rowFor}
 use Rattle.record.specs.Record.{nameIn, ivIn}
-use Rattle.record.specs.Read.{headerSays}
-use Rattle.record.specs.Open.{plaintextBy, openNumber}
+use Rattle.record.specs.Read.{headerSays, readNumber, readAnswer}
+use Rattle.record.specs.Seal.{sealAnswer}
+use Rattle.record.specs.Open.{plaintextBy, openNumber, openAnswer}
 use Rattle.record.specs.Demand3.{Refuses, OpensExactly, OnePlaintext, OneOpening, ElseRefuses, SealedOpens}
-use Rattle.record.specs.Laws.{HeaderThere, HeaderBack, SealOtherRows, OpenOtherRows, SealEarlier, NextEarlier, OpenEarlier, ReadUnique, CheckUnique, SealUnique, OpenUnique}
+use Rattle.record.specs.Laws.{HeaderThere, HeaderBack, SealOtherRows, OpenOtherRows, SealEarlier, NextEarlier, OpenEarlier, ReadUnique, CheckUnique, SealUnique, OpenUnique, ReadTestsRise, SealTestsRise, OpenTestsRise}
 use Rattle.record.specs.declared.header.Header.{Header}
 use Rattle.record.specs.declared.header.Header.the-variants.{Fields, BadForm, BadMode, TooLong}
 use Rattle.record.proofs.Written.{read-back, front-back}
@@ -137,13 +138,24 @@ headerIn-says BadMode = refl
 headerIn-says TooLong = refl
 
 pub read-unique : ReadUnique
-read-unique r x y p q = sym (headerIn-says x) ∙ ap headerIn (p ∙ sym q) ∙ headerIn-says y
+read-unique r = unique-by headerSays headerIn headerIn-says (readAnswer r)
 
 pub check-unique : CheckUnique
-check-unique r x y p q = one-answer (sym p) (sym q)
+check-unique r = unique (readNumber r)
 
 pub seal-unique : SealUnique
-seal-unique t name iv a p out x y = one-answer
+seal-unique t name iv a p out = unique (sealAnswer t name iv a p out)
 
 pub open-unique : OpenUnique
-open-unique t r a out count x y = one-answer
+open-unique t r a out count = unique (openAnswer t r a out count)
+
+-- ---- the numbers rise
+
+pub read-tests-rise : ReadTestsRise
+read-tests-rise r = refl
+
+pub seal-tests-rise : SealTestsRise
+seal-tests-rise ok row name iv a n room = refl
+
+pub open-tests-rise : OpenTestsRise
+open-tests-rise ok row r a room = refl

@@ -13,7 +13,7 @@ use Rattle.octets.specs.Lent.{over}
 use Rattle.keytable.specs.Row.{nameMax, useOf, keyOf}
 use Rattle.keytable.specs.Table.{tableOk, rowFor}
 use Rattle.modes.specs.Calls.{textMax}
-use Rattle.record.specs.Record.{permitted, modeIn, countIn, nameSize, layoutOk, nameIn, ivIn, textIn}
+use Rattle.record.specs.Record.{namesMode, modeIn, countIn, nameSize, layoutOk, nameIn, ivIn, textIn}
 use Rattle.record.specs.Seal.{callersMax}
 use Rattle.record.specs.Open.{authenticBy, plaintextBy, openTests, openNumber, openRow, openAnswer}
 use Rattle.record.specs.Demand3.{Opens}
@@ -27,7 +27,7 @@ use Rattle.record.proofs.Numbers.{fitting, within-maxima, maxima-kept}
 pub record Openable (ok : Bool) (row r a : List ℕ) (room : ℕ) : Type 0 where
   pub accepted : ok ≡ true
   pub layout : layoutOk r ≡ true
-  pub mode : permitted (modeIn r) ≡ true
+  pub mode : namesMode (modeIn r) ≡ true
   pub short : nameSize r ≤ nameMax
   pub few : countIn r ≤ textMax
   pub little : length a ≤ callersMax
@@ -49,7 +49,7 @@ module _ (ok : Bool) (r a : List ℕ) (room : ℕ) where
       record {
         accepted = not-false ok (no 0);
         layout = not-false (layoutOk r) (no 1);
-        mode = not-false (permitted (modeIn r)) (no 2);
+        mode = not-false (namesMode (modeIn r)) (no 2);
         short = maxima .0;
         few = maxima .1;
         little = maxima .2;

@@ -9,7 +9,7 @@ use borrow.Author.Tests.{eqb-true, eq-eqb, leb-true, le-leb}
 use lib.ListN.{length, getD}
 use Rattle.octets.specs.BigEndian.{numberAt}
 use Rattle.octets.proofs.Tests.{every-at, length-part, parts-whole}
-use Rattle.record.specs.Record.{recordFormat, nameAt, ivAt, textAt, tagAt, endAt, countIn, nameSize, modeFor, layoutTests, layoutOk, frontIn, nameIn, ivIn, textIn, tagIn}
+use Rattle.record.specs.Record.{recordFormat, nameAt, ivAt, textAt, tagAt, countIn, nameSize, modeFor, endIn, layoutTests, layoutOk, frontIn, nameIn, ivIn, textIn, tagIn}
 
 -- each word of the header and the end, as the layout has them
 pub record Kept (r : List ℕ) : Type 0 where
@@ -21,7 +21,7 @@ pub record Kept (r : List ℕ) : Type 0 where
   pub iv-long : numberAt 2 r 14 ≡ modeFor r .ivSize
   pub text-at : numberAt 4 r 16 ≡ textAt (modeFor r) (nameSize r)
   pub tag-at : numberAt 4 r 20 ≡ tagAt (modeFor r) (nameSize r) (countIn r)
-  pub end-at : length r ≡ endAt (modeFor r) (nameSize r) (countIn r)
+  pub end-at : length r ≡ endIn r
 
 pub layout-kept : (r : List ℕ) → layoutOk r ≡ true → Kept r
 unfolding layoutOk
@@ -53,11 +53,11 @@ kept-layout r h =
       eq-eqb (numberAt 2 r 14) (modeFor r .ivSize) (h .iv-long),
       eq-eqb (numberAt 4 r 16) (textAt (modeFor r) (nameSize r)) (h .text-at),
       eq-eqb (numberAt 4 r 20) (tagAt (modeFor r) (nameSize r) (countIn r)) (h .tag-at),
-      eq-eqb (length r) (endAt (modeFor r) (nameSize r) (countIn r)) (h .end-at),
+      eq-eqb (length r) (endIn r) (h .end-at),
     )
 
 module _ (r : List ℕ) (layout : layoutOk r ≡ true) where
-  ends : length r ≡ endAt (modeFor r) (nameSize r) (countIn r)
+  ends : length r ≡ endIn r
   ends = layout-kept r layout .end-at
 
   pub parts-record : frontIn r ++ (ivIn r ++ (textIn r ++ tagIn r)) ≡ r

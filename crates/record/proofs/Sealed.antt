@@ -15,7 +15,7 @@ use Rattle.octets.proofs.Tests.{or-left, or-right}
 use Rattle.keytable.specs.Row.{nameMax, useOf, keyOf}
 use Rattle.keytable.specs.Table.{tableOk, rowFor}
 use Rattle.modes.specs.Calls.{textMax}
-use Rattle.record.specs.Record.{permitted, modeOf, endAt, front}
+use Rattle.record.specs.Record.{namesMode, modeOf, endAt, front}
 use Rattle.record.specs.Seal.{callersMax, recordOf, sealedSize, sealTests, sealNumber, sealRow, sealAnswer}
 use Rattle.record.specs.Demand3.{Seals}
 use Rattle.record.proofs.Numbers.{fitting, within-maxima, maxima-kept}
@@ -25,26 +25,26 @@ use Rattle.record.proofs.Laid.{laid, Laid, length-laid, laid-out}
 -- ---- the tests
 
 -- every test of sealing by a row is passed
-pub record Sealable (ok : Bool) (row name iv a p : List ℕ) (room : ℕ) : Type 0 where
+pub record Sealable (ok : Bool) (row name iv a : List ℕ) (n room : ℕ) : Type 0 where
   pub accepted : ok ≡ true
   pub named : 1 ≤ length name
   pub iv-long : length iv ≡ modeOf (useOf row) .ivSize
   pub short : length name ≤ nameMax
-  pub few : length p ≤ textMax
+  pub few : n ≤ textMax
   pub little : length a ≤ callersMax
-  pub fits : sealedSize (some row) name p ≤ room
-  pub mode : permitted (useOf row) ≡ true
+  pub fits : sealedSize (some row) name n ≤ room
+  pub mode : namesMode (useOf row) ≡ true
 
-module _ (ok : Bool) (name iv a p : List ℕ) (room : ℕ) where
-  no-test : (row : Option (List ℕ)) (i : ℕ) → sealNumber ok row name iv a p room ≡ 0 → testAt (sealTests ok row name iv a p room) i ≡ false
+module _ (ok : Bool) (name iv a : List ℕ) (n room : ℕ) where
+  no-test : (row : Option (List ℕ)) (i : ℕ) → sealNumber ok row name iv a n room ≡ 0 → testAt (sealTests ok row name iv a n room) i ≡ false
   unfolding sealNumber
-  no-test row i e = none-applies (sealTests ok row name iv a p room) i refl e
+  no-test row i e = none-applies (sealTests ok row name iv a n room) i refl e
 
-  pub seal-row : (o : Option (List ℕ)) → sealNumber ok o name iv a p room ≡ 0 → (row : List ℕ) × (o ≡ some row)
+  pub seal-row : (o : Option (List ℕ)) → sealNumber ok o name iv a n room ≡ 0 → (row : List ℕ) × (o ≡ some row)
   seal-row none e = absurd (false≢true (sym (no-test none 4 e)))
   seal-row (some row) e = (row, refl)
 
-  pub sealable : (row : List ℕ) → sealNumber ok (some row) name iv a p room ≡ 0 → Sealable ok row name iv a p room
+  pub sealable : (row : List ℕ) → sealNumber ok (some row) name iv a n room ≡ 0 → Sealable ok row name iv a n room
   sealable row e =
       record {
         accepted = not-false ok (no 0);
@@ -53,38 +53,38 @@ module _ (ok : Bool) (name iv a p : List ℕ) (room : ℕ) where
         short = maxima .0;
         few = maxima .1;
         little = maxima .2;
-        fits = ltb-false room (sealedSize (some row) name p) (no 3);
-        mode = not-false (permitted (useOf row)) (no 5);
+        fits = ltb-false room (sealedSize (some row) name n) (no 3);
+        mode = not-false (namesMode (useOf row)) (no 5);
       }
     where
-      no : (i : ℕ) → testAt (sealTests ok (some row) name iv a p room) i ≡ false
+      no : (i : ℕ) → testAt (sealTests ok (some row) name iv a n room) i ≡ false
       no i = no-test (some row) i e
 
-      maxima : (length name ≤ nameMax) × (length p ≤ textMax) × (length a ≤ callersMax)
-      maxima = within-maxima (length name) (length p) a (no 2)
+      maxima : (length name ≤ nameMax) × (n ≤ textMax) × (length a ≤ callersMax)
+      maxima = within-maxima (length name) n a (no 2)
 
-  pub seal-passed : (row : List ℕ) → Sealable ok row name iv a p room → sealNumber ok (some row) name iv a p room ≡ 0
+  pub seal-passed : (row : List ℕ) → Sealable ok row name iv a n room → sealNumber ok (some row) name iv a n room ≡ 0
   unfolding sealNumber
   seal-passed row h =
       rw (
         h .accepted,
         ne-eqb (length name) 0 (λ e. omega (arith, h .named, e)),
         isNot-right (modeOf (useOf row) .ivSize) iv (h .iv-long),
-        maxima-kept (length name) (length p) a (h .short) (h .few) (h .little),
-        le-ltb room (sealedSize (some row) name p) (h .fits),
+        maxima-kept (length name) n a (h .short) (h .few) (h .little),
+        le-ltb room (sealedSize (some row) name n) (h .fits),
         h .mode,
       )
 
 -- the answer 0
 module _ (ok : Bool) (row name iv a p out : List ℕ) where
   pub seal-told : (after : List ℕ) → sealRow ok (some row) name iv a p out ≡ (0, after)
-      → (sealNumber ok (some row) name iv a p (length out) ≡ 0) × (over (recordOf (useOf row) (keyOf row) name iv a p) out ≡ after)
+      → (sealNumber ok (some row) name iv a (length p) (length out) ≡ 0) × (over (recordOf (useOf row) (keyOf row) name iv a p) out ≡ after)
   unfolding sealRow
   seal-told after e = answer-zero _ _ out after e
 
-  pub seal-done : Sealable ok row name iv a p (length out) → sealRow ok (some row) name iv a p out ≡ (0, over (recordOf (useOf row) (keyOf row) name iv a p) out)
+  pub seal-done : Sealable ok row name iv a (length p) (length out) → sealRow ok (some row) name iv a p out ≡ (0, over (recordOf (useOf row) (keyOf row) name iv a p) out)
   unfolding sealRow
-  seal-done h = answer-done _ _ out (seal-passed ok name iv a p (length out) row h)
+  seal-done h = answer-done _ _ out (seal-passed ok name iv a (length p) (length out) row h)
 
 -- ---- the record
 
@@ -116,7 +116,7 @@ module _ (u : ℕ) (key name iv a p : List ℕ) where
 pub record SealedAs (t name iv a p r : List ℕ) : Type 0 where
   pub row : List ℕ
   pub has-row : rowFor t name ≡ some row
-  pub able : Sealable (tableOk t) row name iv a p (sealedSize (some row) name p)
+  pub able : Sealable (tableOk t) row name iv a (length p) (sealedSize (some row) name (length p))
   pub is : recordOf (useOf row) (keyOf row) name iv a p ≡ r
 
 module _ (t name iv a p r : List ℕ) where
@@ -124,7 +124,7 @@ module _ (t name iv a p r : List ℕ) where
   seals-as h = record { row = h .row; has-row = h .has-row; able = able; is = is }
     where
       size : ℕ
-      size = sealedSize (some (h .row)) name p
+      size = sealedSize (some (h .row)) name (length p)
 
       out : List ℕ
       out = replicate size 0
@@ -135,11 +135,11 @@ module _ (t name iv a p r : List ℕ) where
       answered : sealRow (tableOk t) (some (h .row)) name iv a p out ≡ (0, r)
       answered = ap (λ (o : Option (List ℕ)). sealRow (tableOk t) o name iv a p out) (sym (h .has-row)) ∙ h .makes out length-out
 
-      told : (sealNumber (tableOk t) (some (h .row)) name iv a p (length out) ≡ 0) × (over (recordOf (useOf (h .row)) (keyOf (h .row)) name iv a p) out ≡ r)
+      told : (sealNumber (tableOk t) (some (h .row)) name iv a (length p) (length out) ≡ 0) × (over (recordOf (useOf (h .row)) (keyOf (h .row)) name iv a p) out ≡ r)
       told = seal-told (tableOk t) (h .row) name iv a p out r answered
 
-      able : Sealable (tableOk t) (h .row) name iv a p size
-      able = sealable (tableOk t) name iv a p size (h .row) (rw length-out at (told .0))
+      able : Sealable (tableOk t) (h .row) name iv a (length p) size
+      able = sealable (tableOk t) name iv a (length p) size (h .row) (rw length-out at (told .0))
 
       is : recordOf (useOf (h .row)) (keyOf (h .row)) name iv a p ≡ r
       is =
@@ -150,7 +150,7 @@ module _ (t name iv a p r : List ℕ) where
   pub as-seals : SealedAs t name iv a p r → Seals t name iv a p r
   as-seals h = record { row = h .row; has-row = h .has-row; makes = makes }
     where
-      makes : (out : List ℕ) → length out ≡ sealedSize (some (h .row)) name p → sealAnswer t name iv a p out ≡ (0, r)
+      makes : (out : List ℕ) → length out ≡ sealedSize (some (h .row)) name (length p) → sealAnswer t name iv a p out ≡ (0, r)
       makes out size =
           ap (λ (o : Option (List ℕ)). sealRow (tableOk t) o name iv a p out) (h .has-row)
           ∙ seal-done (tableOk t) (h .row) name iv a p out (rw size (h .able))

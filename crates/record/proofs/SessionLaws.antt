@@ -10,7 +10,7 @@ use borrow.Author.Tests.{eqb-true, eqb-false, ne-eqb, not-false}
 use lib.Dec.{eqb}
 use lib.ListN.{length, take}
 use Rattle.octets.specs.Lent.{when}
-use Rattle.octets.proofs.Lent.{one-answer}
+use Rattle.octets.proofs.Unique.{unique, unique-by}
 use Rattle.keytable.specs.Row.{useOf, keyOf}
 use Rattle.keytable.specs.Table.{tableOk, rowFor}
 use Rattle.session.specs.Iv.{lastField, withFields, isSpent, ivOf, after}
@@ -20,8 +20,8 @@ use Rattle.session.specs.declared.Session.{Session}
 use Rattle.session.proofs.Runs.{run-differs}
 use Rattle.record.specs.Record.{ivIn}
 use Rattle.record.specs.Seal.{recordOf, sealedSize, sealNumber, sealRow}
-use Rattle.record.specs.Next.{sealNextNumber, sealNextRow, sealNextAnswer}
-use Rattle.record.specs.Laws.{NextOtherRows, NextLive, NextSpent, NextSeals, NextAdvances, NextRefused, Lent, before, call, written, RecordsDiffer, SealByUnique, SealNextUnique}
+use Rattle.record.specs.Next.{sealedSays, sealNextNumber, sealNextRow, sealNextAnswer}
+use Rattle.record.specs.Laws.{NextOtherRows, NextLive, NextSpent, NextSeals, NextAdvances, NextRefused, Lent, before, call, written, RecordsDiffer, SealByUnique, SealNextUnique, SealNextTestsRise}
 use Rattle.octets.proofs.Lent.{answer-done, take-over}
 use Rattle.record.proofs.Laid.{laid-out}
 use Rattle.record.proofs.Sealed.{Sealable, seal-row, sealable, textBy, tagBy, recordOf-laid, length-textBy, length-tagBy, length-recordOf}
@@ -42,7 +42,7 @@ next-where-spent s t name a p out spent e = next-spent s (tableOk t) (rowFor t n
 
 -- 0 by the definition: sealing gave 0, and the session is not spent
 zero-told : (s : Session) (t name a p out : List ℕ) → sealNextAnswer s t name a p out .0 ≡ 0
-    → (sealNumber (tableOk t) (rowFor t name) name (ivOf s) a p (length out) ≡ 0) × (isSpent s ≡ false)
+    → (sealNumber (tableOk t) (rowFor t name) name (ivOf s) a (length p) (length out) ≡ 0) × (isSpent s ≡ false)
 unfolding sealNextRow
 zero-told s t name a p out e = next-zero s (tableOk t) (rowFor t name) name a p (length out) e
 
@@ -70,7 +70,7 @@ next-moves s t name a p out = refl
 
 pub next-refused-same : NextRefused
 unfolding sealNextRow
-next-refused-same s t name a p out h = rw (ne-eqb (sealNextNumber s (tableOk t) (rowFor t name) name a p (length out)) 0 h)
+next-refused-same s t name a p out h = rw (ne-eqb (sealNextNumber s (tableOk t) (rowFor t name) name a (length p) (length out)) 0 h)
 
 pub next-advances : NextAdvances
 next-advances s t name a p out = (advances, (changes, changed))
@@ -93,8 +93,8 @@ next-advances s t name a p out = (advances, (changes, changed))
 
 -- ---- the IV of the record that was written
 
-iv-by : (s : Session) (ok : Bool) (row name a p out : List ℕ) → sealNumber ok (some row) name (ivOf s) a p (length out) ≡ 0 → isSpent s ≡ false
-    → ivIn (take (sealedSize (some row) name p) (sealNextRow s ok (some row) name a p out .1)) ≡ ivOf s
+iv-by : (s : Session) (ok : Bool) (row name a p out : List ℕ) → sealNumber ok (some row) name (ivOf s) a (length p) (length out) ≡ 0 → isSpent s ≡ false
+    → ivIn (take (sealedSize (some row) name (length p)) (sealNextRow s ok (some row) name a p out .1)) ≡ ivOf s
 iv-by s ok row name a p out e live =
     laid-out u name (length p) (ivOf s) (textBy u key (ivOf s) p) (tagBy u key name (ivOf s) a p) (able .iv-long) (length-textBy u key name (ivOf s) a p)
     (length-tagBy u key name (ivOf s) a p) (able .named) (able .short) (able .few) _ (recordOf-laid u key name (ivOf s) a p ∙ sym wrote) .iv-is
@@ -105,20 +105,20 @@ iv-by s ok row name a p out e live =
     key : List ℕ
     key = keyOf row
 
-    able : Sealable ok row name (ivOf s) a p (length out)
-    able = sealable ok name (ivOf s) a p (length out) row e
+    able : Sealable ok row name (ivOf s) a (length p) (length out)
+    able = sealable ok name (ivOf s) a (length p) (length out) row e
 
-    wrote : take (sealedSize (some row) name p) (sealNextRow s ok (some row) name a p out .1) ≡ recordOf u key name (ivOf s) a p
+    wrote : take (sealedSize (some row) name (length p)) (sealNextRow s ok (some row) name a p out .1) ≡ recordOf u key name (ivOf s) a p
     wrote =
-        ap (λ (x : Answer). take (sealedSize (some row) name p) (x .1)) (next-done s ok (some row) name a p out e live)
-        ∙ take-over (recordOf u key name (ivOf s) a p) out (sealedSize (some row) name p) (length-recordOf u key name (ivOf s) a p (able .iv-long)) (able .fits)
+        ap (λ (x : Answer). take (sealedSize (some row) name (length p)) (x .1)) (next-done s ok (some row) name a p out e live)
+        ∙ take-over (recordOf u key name (ivOf s) a p) out (sealedSize (some row) name (length p)) (length-recordOf u key name (ivOf s) a p (able .iv-long)) (able .fits)
 
 iv-written : (s : Session) (t name a p out : List ℕ) → sealNextAnswer s t name a p out .0 ≡ 0
-    → ivIn (take (sealedSize (rowFor t name) name p) (sealNextAnswer s t name a p out .1)) ≡ ivOf s
+    → ivIn (take (sealedSize (rowFor t name) name (length p)) (sealNextAnswer s t name a p out .1)) ≡ ivOf s
 iv-written s t name a p out e =
     let (number, live) = zero-told s t name a p out e in
-    let (row, has) = seal-row (tableOk t) name (ivOf s) a p (length out) (rowFor t name) number in
-    subst (λ (o : Option (List ℕ)). ivIn (take (sealedSize o name p) (sealNextRow s (tableOk t) o name a p out .1)) ≡ ivOf s) (sym has)
+    let (row, has) = seal-row (tableOk t) name (ivOf s) a (length p) (length out) (rowFor t name) number in
+    subst (λ (o : Option (List ℕ)). ivIn (take (sealedSize o name (length p)) (sealNextRow s (tableOk t) o name a p out .1)) ≡ ivOf s) (sym has)
     (iv-by s (tableOk t) row name a p out (rw has at number) live)
 
 -- ---- calls one after another
@@ -139,11 +139,12 @@ records-differ s lent i j below hi hj e = run-differs (before lent s) _ (calls l
 -- ---- one answer
 
 pub seal-by-unique : SealByUnique
-seal-by-unique s t name a p out x y left left′ ex ey =
-    let same = one-answer ex ey in (
-      ap (λ (z : Answer). record { number = z .0; session = z .2 }) same,
-      ap (λ (z : Answer). z .1) same,
-    )
+seal-by-unique s t name a p out = unique-by sealedSays (λ (z : Answer). (record { number = z .0; session = z .2 }, z .1)) (λ x. refl) (sealNextAnswer s t name a p out)
 
 pub seal-next-unique : SealNextUnique
-seal-next-unique s t name a p out x y = one-answer
+seal-next-unique s t name a p out = unique (sealNextAnswer s t name a p out)
+
+-- ---- the numbers rise
+
+pub seal-next-tests-rise : SealNextTestsRise
+seal-next-tests-rise s ok row name a n room = refl

@@ -15,7 +15,7 @@ use Rattle.keytable.specs.Row.{nameMax}
 use Rattle.modes.specs.Calls.{textMax}
 use Rattle.record.specs.Record.{recordFormat, nameAt, modeOf, ivAt, textAt, tagAt, endAt, modeIn, countIn, nameSize, layoutOk, frontIn, nameIn, header, front}
 use Rattle.record.specs.Laws.{ReadBack}
-use Rattle.record.proofs.Numbers.{iv-size}
+use Rattle.record.proofs.Numbers.{iv-small}
 use Rattle.record.proofs.Parts.{Kept, layout-kept, length-nameIn}
 
 -- ---- there
@@ -48,10 +48,10 @@ module _ (u k n : ℕ) (rest : List ℕ) (short : k ≤ nameMax) (few : n < 2 ^ 
         name-at = refl;
         named = rw header-size named;
         iv-at = number-be 2 (ivAt k) (omega (arith, short)) ∙ ap ivAt (sym header-size);
-        iv-long = number-be 2 (modeOf u .ivSize) (omega (arith, iv-size u));
-        text-at = number-be 4 (textAt (modeOf u) k) (omega (arith, short, iv-size u)) ∙ ap (textAt (modeOf u)) (sym header-size);
+        iv-long = number-be 2 (modeOf u .ivSize) (omega (arith, iv-small u));
+        text-at = number-be 4 (textAt (modeOf u) k) (omega (arith, short, iv-small u)) ∙ ap (textAt (modeOf u)) (sym header-size);
         tag-at =
-            number-be 4 (tagAt (modeOf u) k n) (omega (arith, short, few, iv-size u))
+            number-be 4 (tagAt (modeOf u) k n) (omega (arith, short, few, iv-small u))
             ∙ ap₂ (tagAt (modeOf u)) (sym header-size) (sym header-count);
         end-at = whole ∙ ap₂ (endAt (modeOf u)) (sym header-size) (sym header-count);
       }

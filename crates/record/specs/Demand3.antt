@@ -23,7 +23,7 @@ pub record Opens (t r a out : List ℕ) (count : ℕ) (p : List ℕ) : Type 0 wh
 pub record Seals (t name iv a p r : List ℕ) : Type 0 where
   pub row : List ℕ
   pub has-row : rowFor t name ≡ some row
-  pub makes : (out : List ℕ) → length out ≡ sealedSize (some row) name p → sealAnswer t name iv a p out ≡ (0, r)
+  pub makes : (out : List ℕ) → length out ≡ sealedSize (some row) name (length p) → sealAnswer t name iv a p out ≡ (0, r)
 
 -- for any bytes r, an accepted table and an output with room
 pub record Given (t r out : List ℕ) : Type 0 where

@@ -2,11 +2,14 @@
 -- Assumes nothing.
 use mathlib.Core.Path.{_≡_}
 use mathlib.Core.Logic.{_↔_}
-use mathlib.Core.Bool.{true, false}
+use mathlib.Core.Bool.{Bool, true, false}
 use mathlib.Core.List.{List, _++_}
+use mathlib.Core.Option.{Option}
 use Prim.Native.Nat.{ℕ, zero, suc, _^_, _≤_, _<_}
 use lib.ListN.{length, take, drop}
 use Rattle.octets.specs.Bytes.{Bytes}
+use Rattle.octets.specs.Lowest.{rises}
+use Rattle.octets.specs.Unique.{Unique, UniqueBy}
 use Rattle.keytable.specs.Row.{nameMax}
 use Rattle.keytable.specs.Table.{tableOk, rowFor}
 use Rattle.modes.specs.Calls.{textMax}
@@ -14,12 +17,10 @@ use Rattle.session.specs.Iv.{isSpent, ivOf, after}
 use Rattle.session.specs.Calls.{Answer, sessionAfter}
 use Rattle.session.specs.declared.Session.{Session}
 use Rattle.record.specs.Record.{modeIn, countIn, nameSize, layoutOk, frontIn, nameIn, ivIn, front}
-use Rattle.record.specs.Read.{headerSays, readNumber, readAnswer}
-use Rattle.record.specs.Seal.{sealedSize, sealAnswer}
-use Rattle.record.specs.Open.{openAnswer}
-use Rattle.record.specs.Next.{sealNextAnswer}
-use Rattle.record.specs.declared.header.Header.{Header}
-use Rattle.record.specs.declared.next.Sealed.{Sealed}
+use Rattle.record.specs.Read.{readTests, headerSays, readNumber, readAnswer}
+use Rattle.record.specs.Seal.{sealedSize, sealTests, sealAnswer}
+use Rattle.record.specs.Open.{openTests, openAnswer}
+use Rattle.record.specs.Next.{sealedSays, sealNextTests, sealNextAnswer}
 
 -- ---- the header, there and back
 
@@ -66,7 +67,7 @@ pub record Alike (size : ℕ) (out out′ : List ℕ) (x x′ : ℕ × List ℕ)
 abbrev pub SealEarlier : Type 0
 SealEarlier =
     (t name iv a p out out′ : List ℕ) → length out ≡ length out′
-    → Alike (sealedSize (rowFor t name) name p) out out′ (sealAnswer t name iv a p out) (sealAnswer t name iv a p out′)
+    → Alike (sealedSize (rowFor t name) name (length p)) out out′ (sealAnswer t name iv a p out) (sealAnswer t name iv a p out′)
 
 abbrev pub OpenEarlier : Type 0
 OpenEarlier =
@@ -79,7 +80,7 @@ NextEarlier =
     (s : Session) (t name a p out out′ : List ℕ) → length out ≡ length out′
     → let x = sealNextAnswer s t name a p out in
     let x′ = sealNextAnswer s t name a p out′ in
-    Alike (sealedSize (rowFor t name) name p) out out′ (x .0, x .1) (x′ .0, x′ .1) × (x .2 ≡ x′ .2)
+    Alike (sealedSize (rowFor t name) name (length p)) out out′ (x .0, x .1) (x′ .0, x′ .1) × (x .2 ≡ x′ .2)
 
 -- ---- sealing with a session
 
@@ -135,7 +136,7 @@ abbrev pub call : (ℕ → Lent) → Session → ℕ → Answer
 call lent s i = sealNext (before lent s i) (lent i)
 
 abbrev pub written : (ℕ → Lent) → Session → ℕ → List ℕ
-written lent s i = take (sealedSize (rowFor (lent i .table) (lent i .name)) (lent i .name) (lent i .plain)) (call lent s i .1)
+written lent s i = take (sealedSize (rowFor (lent i .table) (lent i .name)) (lent i .name) (length (lent i .plain))) (call lent s i .1)
 
 -- "So one session's IVs all differ": the records of one session have different IVs, whatever was lent and whatever was refused between them
 abbrev pub RecordsDiffer : Type 0
@@ -146,23 +147,34 @@ RecordsDiffer =
 -- ---- for each input one answer, and one state of what is lent
 
 abbrev pub ReadUnique : Type 0
-ReadUnique = (r : List ℕ) (x y : Header) → headerSays x ≡ readAnswer r → headerSays y ≡ readAnswer r → x ≡ y
+ReadUnique = (r : List ℕ) → UniqueBy headerSays (readAnswer r)
 
 abbrev pub CheckUnique : Type 0
-CheckUnique = (r : List ℕ) (x y : ℕ) → x ≡ readNumber r → y ≡ readNumber r → x ≡ y
+CheckUnique = (r : List ℕ) → Unique (readNumber r)
 
 abbrev pub SealUnique : Type 0
-SealUnique = (t name iv a p out : List ℕ) (x y : ℕ × List ℕ) → sealAnswer t name iv a p out ≡ x → sealAnswer t name iv a p out ≡ y → x ≡ y
+SealUnique = (t name iv a p out : List ℕ) → Unique (sealAnswer t name iv a p out)
 
 abbrev pub OpenUnique : Type 0
-OpenUnique =
-    (t r a out : List ℕ) (count : ℕ) (x y : (ℕ × List ℕ) × ℕ) → openAnswer t r a out count ≡ x → openAnswer t r a out count ≡ y → x ≡ y
+OpenUnique = (t r a out : List ℕ) (count : ℕ) → Unique (openAnswer t r a out count)
 
 abbrev pub SealByUnique : Type 0
-SealByUnique =
-    (s : Session) (t name a p out : List ℕ) (x y : Sealed) (left left′ : List ℕ)
-    → sealNextAnswer s t name a p out ≡ (x .number, left, x .session) → sealNextAnswer s t name a p out ≡ (y .number, left′, y .session)
-    → (x ≡ y) × (left ≡ left′)
+SealByUnique = (s : Session) (t name a p out : List ℕ) → UniqueBy sealedSays (sealNextAnswer s t name a p out)
 
 abbrev pub SealNextUnique : Type 0
-SealNextUnique = (s : Session) (t name a p out : List ℕ) (x y : Answer) → sealNextAnswer s t name a p out ≡ x → sealNextAnswer s t name a p out ≡ y → x ≡ y
+SealNextUnique = (s : Session) (t name a p out : List ℕ) → Unique (sealNextAnswer s t name a p out)
+
+-- ---- "The lowest that applies is given": the numbers of each list of tests rise
+
+abbrev pub ReadTestsRise : Type 0
+ReadTestsRise = (r : List ℕ) → rises (readTests r) ≡ true
+
+abbrev pub SealTestsRise : Type 0
+SealTestsRise = (ok : Bool) (row : Option (List ℕ)) (name iv a : List ℕ) (n room : ℕ) → rises (sealTests ok row name iv a n room) ≡ true
+
+abbrev pub OpenTestsRise : Type 0
+OpenTestsRise = (ok : Bool) (row : Option (List ℕ)) (r a : List ℕ) (room : ℕ) → rises (openTests ok row r a room) ≡ true
+
+abbrev pub SealNextTestsRise : Type 0
+SealNextTestsRise =
+    (s : Session) (ok : Bool) (row : Option (List ℕ)) (name a : List ℕ) (n room : ℕ) → rises (sealNextTests s ok row name a n room) ≡ true

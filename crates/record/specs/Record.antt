@@ -13,8 +13,8 @@ use Rattle.modes.specs.Ccm.{ccm}
 use Rattle.modes.specs.Gcm.{gcm}
 
 -- "2 mode (01h CCM, 02h GCM)"
-abbrev pub permitted : ℕ → Bool
-permitted u = eqb u 1 || eqb u 2
+abbrev pub namesMode : ℕ → Bool
+namesMode u = eqb u 1 || eqb u 2
 
 -- the mode that a byte names; what names none is measured by CCM's lengths
 abbrev pub modeOf : ℕ → Mode
@@ -54,6 +54,10 @@ nameSize r = numberAt 2 r 10
 abbrev pub modeFor : List ℕ → Mode
 modeFor r = modeOf (modeIn r)
 
+-- the end that a record's own header gives
+abbrev pub endIn : List ℕ → ℕ
+endIn r = endAt (modeFor r) (nameSize r) (countIn r)
+
 -- "0-1 format 0001h; 3 zero; 8-9 offset of the name, 24; 12-13 offset of the IV, 24+k; 14-15 IV length, 12; 16-19 offset of the ciphertext, 36+k;
 -- 20-23 offset of the tag, 36+k+n", "and the end at 52+k+n"; "k 0" breaks the layout
 abbrev pub layoutTests : List ℕ → List Bool
@@ -66,7 +70,7 @@ layoutTests r =
     ∷ eqb (numberAt 2 r 14) (modeFor r .ivSize)
     ∷ eqb (numberAt 4 r 16) (textAt (modeFor r) (nameSize r))
     ∷ eqb (numberAt 4 r 20) (tagAt (modeFor r) (nameSize r) (countIn r))
-    ∷ eqb (length r) (endAt (modeFor r) (nameSize r) (countIn r))
+    ∷ eqb (length r) (endIn r)
     ∷ []
 
 unfoldable pub layoutOk : List ℕ → Bool

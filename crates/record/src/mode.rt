@@ -1,12 +1,30 @@
-// The mode that a byte names, and its two directions over associated data in two parts.
+// The mode that a byte names: its lengths, and its two directions over associated data in two parts.
 ghost use mathlib.Core.Path.{_≡_};
 ghost use Rattle.modes.specs.Calls.{encryptAnswer, decryptAnswer};
-ghost use Rattle.record.specs.Record.{permitted, modeOf};
+ghost use Rattle.record.specs.Record.{namesMode, modeOf};
 
-pub(crate) fn is_permitted(u: u8) -> bool
-    ensures { λ r. ⌜ r ≡ permitted u ⌝ }
+pub(crate) fn names_mode(u: u8) -> bool
+    ensures { λ r. ⌜ r ≡ namesMode u ⌝ }
 {
     (u == 1) | (u == 2)
+}
+
+pub(crate) fn iv_size(u: u8) -> usize
+    ensures { λ r. ⌜ r ≡ modeOf u .ivSize ⌝ }
+{
+    if u == 2 {
+        return 12;
+    }
+    12
+}
+
+pub(crate) fn tag_size(u: u8) -> usize
+    ensures { λ r. ⌜ r ≡ modeOf u .tagSize ⌝ }
+{
+    if u == 2 {
+        return 16;
+    }
+    16
 }
 
 pub(crate) fn encrypt(

@@ -29,7 +29,7 @@ pub fn seal_by(
     let number = issued.number;
     let iv = issued.iv;
     let session = issued.session;
-    let r = test(table, name, &iv, aad, plain, out.len());
+    let r = test(table, name, &iv, aad, plain.len(), out.len());
     let Ready::At(at) = r else {
         return Sealed {
             number: number_of(r),

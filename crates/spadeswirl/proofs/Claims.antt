@@ -17,7 +17,7 @@ use Rattle.keytable.specs.Table.{tableOk, rowFor}
 use Rattle.keytable.proofs.Laws.{empty-table}
 use Rattle.session.proofs.Laws.{last-two, last-two-held}
 use Rattle.descriptors.proofs.Laws.{label-claim}
-use Rattle.record.specs.Record.{permitted, modeIn, countIn, nameSize, nameIn, header}
+use Rattle.record.specs.Record.{namesMode, modeIn, countIn, nameSize, nameIn, header}
 use Rattle.record.specs.Read.{passes}
 use Rattle.record.specs.Seal.{callersMax}
 use Rattle.record.proofs.Numbers.{open-four}
@@ -56,7 +56,7 @@ greatest-record = (refl, refl)
 
 one-byte-more : OneByteMore
 one-byte-more t rest a out count u k good mode-ok named short whole =
-    open-four (tableOk t) (rowFor t (nameIn r)) r a out count good (kept-layout r kept) (ap permitted mode-is ∙ mode-ok) too-long
+    open-four (tableOk t) (rowFor t (nameIn r)) r a out count good (kept-layout r kept) (ap namesMode mode-is ∙ mode-ok) too-long
   where
     r : List ℕ
     r = header u k 1048577 ++ rest

@@ -21,7 +21,7 @@ size c = search needs
 
 is : (c : tie.After-test) (r : Ready) → c .test .result ≡ r →
     let a = start c .args in
-    readyAnswer (a .table .now) (a .name .now) (advanced c .advance .result .iv) (a .aad .now) (a .plain .now) (length (a .out .now)) ≡ (readyNumber r, readyRow (a .table .now) r)
+    readyAnswer (a .table .now) (a .name .now) (advanced c .advance .result .iv) (a .aad .now) (length (a .plain .now)) (length (a .out .now)) ≡ (readyNumber r, readyRow (a .table .now) r)
 is c r e = c .test .ensures ∙ ap (λ (x : Ready). (readyNumber x, readyRow (start c .args .table .now) x)) e
 
 returns : tie.Need-returns

@@ -19,7 +19,7 @@ abbrev start : tie.After-use-at → tie.Start
 start c = c .before .before .before .before .before .before .before
 
 able : (c : tie.After-use-at) → let a = start c .args in
-    Sealable (tableOk (a .table .now)) (rowAt (a .table .now) (a .at)) (a .name .now) (a .iv .now) (a .aad .now) (a .plain .now) (length (a .out .now))
+    Sealable (tableOk (a .table .now)) (rowAt (a .table .now) (a .at)) (a .name .now) (a .iv .now) (a .aad .now) (length (a .plain .now)) (length (a .out .now))
 able c = ready-able _ _ _ _ _ _ _ _ (start c .pre)
 
 found : (c : tie.After-use-at) → let a = start c .args in rowFor (a .table .now) (a .name .now) ≡ some (rowAt (a .table .now) (a .at))
