@@ -1,31 +1,35 @@
 -- Decryption undoes encryption, both ways, for every mode whose two directions fit each other: the laws of specs/Laws.antt, of any such mode.
 -- Assumes nothing.
-use mathlib.Core.Path.{_≡_, refl, sym, ap, ap₂, _∙_}
-use mathlib.Core.Bool.{Bool, true, false}
+use mathlib.Core.Path.{_≡_, refl, sym, ap, ap₂, subst, _∙_}
+use mathlib.Core.Bool.{Bool, true, false, not}
 use mathlib.Core.Logic.{_↔_}
-use mathlib.Core.List.{List, _++_}
+use mathlib.Core.List.{List, [], _∷_, _++_}
 use Prim.Native.Nat.{ℕ, _+_, _≤_}
 use native.Mathlib.Omega.{arith}
 use borrow.Author.Tests.{le-ltb}
 use lib.ListN.{length, take, drop, length-append}
 use lib.Seq.{take-at, drop-at}
+use Rattle.octets.specs.Bytes.{Bytes}
 use Rattle.octets.specs.Same.{same}
-use Rattle.octets.specs.Lent.{over}
+use Rattle.octets.specs.Lent.{lowest, over, answer}
 use Rattle.octets.proofs.Same.{same-equal, same-refl}
 use Rattle.octets.proofs.Lent.{over-injective, one-answer}
+use Rattle.octets.proofs.Unique.{unique}
 use Rattle.modes.specs.Mode.{Mode, sealed}
-use Rattle.modes.specs.Calls.{decryptAnswer}
-use Rattle.modes.specs.Laws.{InRange, DecryptsTo, DecryptsExactly, OnePlaintext, ElseNine, SealedLength, Lawful}
-use Rattle.octets.proofs.Lent.{isNot-right}
-use Rattle.modes.proofs.Numbers.{sizes-right, tooLong-short, decrypt-nine, decrypt-zero}
+use Rattle.modes.specs.Calls.{encryptAnswer, decryptAnswer}
+use Rattle.modes.specs.Laws.{Keyed, EncryptsTo, InRange, DecryptsTo, DecryptsExactly, OnePlaintext, ElseNine, SealedLength, EncryptsInRange, Lawful}
+use Rattle.modes.proofs.Numbers.{wrongSizes-right, tooLong-short, encrypt-zero, opened-wrong, opened-right, decrypt-in-range}
 
--- how a mode's two directions fit: for every key and IV the plaintext undoes the ciphertext and back, and a tag is authentic exactly where it is the tag
+-- how a mode's two directions fit: for every key and IV, and every text of a length that it permits, the plaintext undoes the ciphertext and back,
+-- and a tag is authentic exactly where it is the tag
 pub record Fitting (m : Mode) : Type 0 where
-  pub ciphertext-length : (key iv p : List ℕ) → length (m .ciphertext key iv p) ≡ length p
-  pub tag-length : (key iv a p : List ℕ) → length (m .tag key iv a p) ≡ m .tagSize
-  pub opens : (key iv p : List ℕ) → m .plaintext key iv (m .ciphertext key iv p) ≡ p
-  pub seals : (key iv c : List ℕ) → m .ciphertext key iv (m .plaintext key iv c) ≡ c
-  pub authentic-exactly : (key iv a c t : List ℕ) → length t ≡ m .tagSize
+  pub ciphertext-length : (key iv p : List ℕ) → Keyed m key iv → m .permits (length p) ≡ true → length (m .ciphertext key iv p) ≡ length p
+  pub plaintext-length : (key iv c : List ℕ) → Keyed m key iv → m .permits (length c) ≡ true → length (m .plaintext key iv c) ≡ length c
+  pub plaintext-bytes : (key iv c : List ℕ) → Keyed m key iv → m .permits (length c) ≡ true → Bytes c → Bytes (m .plaintext key iv c)
+  pub tag-length : (key iv a p : List ℕ) → Keyed m key iv → m .permits (length p) ≡ true → length (m .tag key iv a p) ≡ m .tagSize
+  pub opens : (key iv p : List ℕ) → Keyed m key iv → m .permits (length p) ≡ true → Bytes p → m .plaintext key iv (m .ciphertext key iv p) ≡ p
+  pub seals : (key iv c : List ℕ) → Keyed m key iv → m .permits (length c) ≡ true → Bytes c → m .ciphertext key iv (m .plaintext key iv c) ≡ c
+  pub authentic-exactly : (key iv a c t : List ℕ) → Keyed m key iv → m .permits (length c) ≡ true → Bytes c → length t ≡ m .tagSize
       → (m .authentic key iv a c t ≡ true) ↔ (m .tag key iv a (m .plaintext key iv c) ≡ t)
 
 -- a test that is `same` of two strings
@@ -50,55 +54,74 @@ zero-not-nine {A} e = let z : _≡_ {A = ℕ} 9 0 = ap (λ (u : ℕ × A). u .0)
 -- ---- a mode that fits
 
 module _ (m : Mode) (fit : Fitting m) where
+  permits-size : (s t : List ℕ) → length s ≡ length t → m .permits (length t) ≡ true → m .permits (length s) ≡ true
+  permits-size s t e h = ap (m .permits) e ∙ h
+
   module _ (key iv a b c t out : List ℕ) (inside : InRange m key iv a b c t out) where
+    decided : decryptAnswer m key iv a b c t out ≡ answer (lowest ((9, not (m .authentic key iv (a ++ b) c t)) ∷ [])) (m .plaintext key iv c) out
+    decided =
+        decrypt-in-range m key iv a b c t out (inside .keyed .key-size) (inside .keyed .iv-size) (inside .permitted) (inside .tag-size)
+        (inside .data-fits) (inside .text-fits) (inside .room)
+
     answers-nine : m .authentic key iv (a ++ b) c t ≡ false → decryptAnswer m key iv a b c t out ≡ (9, out)
-    answers-nine =
-        decrypt-nine m key iv a b c t out (sizes-right _ _ key iv (inside .key-size) (inside .iv-size)) (isNot-right _ t (inside .tag-size))
-        (tooLong-short a b c (inside .data-fits) (inside .text-fits)) (le-ltb (length out) (length c) (inside .room))
+    answers-nine e = decided ∙ opened-wrong (m .authentic key iv (a ++ b) c t) (m .plaintext key iv c) out e
 
     answers-zero : m .authentic key iv (a ++ b) c t ≡ true → decryptAnswer m key iv a b c t out ≡ (0, over (m .plaintext key iv c) out)
-    answers-zero =
-        decrypt-zero m key iv a b c t out (sizes-right _ _ key iv (inside .key-size) (inside .iv-size)) (isNot-right _ t (inside .tag-size))
-        (tooLong-short a b c (inside .data-fits) (inside .text-fits)) (le-ltb (length out) (length c) (inside .room))
+    answers-zero e = decided ∙ opened-right (m .authentic key iv (a ++ b) c t) (m .plaintext key iv c) out e
 
-    plaintext-length : length (m .plaintext key iv c) ≡ length c
-    plaintext-length = sym (fit .ciphertext-length key iv (m .plaintext key iv c)) ∙ ap length (fit .seals key iv c)
+    long : length (m .plaintext key iv c) ≡ length c
+    long = fit .plaintext-length key iv c (inside .keyed) (inside .permitted)
 
     -- the plaintext of an authentic tag, encrypted
-    seals-back : m .authentic key iv (a ++ b) c t ≡ true → sealed m key iv (a ++ b) (m .plaintext key iv c) ≡ c ++ t
-    seals-back e = ap₂ (λ (x y : List ℕ). x ++ y) (fit .seals key iv c) (fit .authentic-exactly key iv (a ++ b) c t (inside .tag-size) .0 e)
+    seals-back : m .authentic key iv (a ++ b) c t ≡ true → EncryptsTo m key iv (a ++ b) (m .plaintext key iv c) c t
+    seals-back e =
+        record {
+          permitted = permits-size (m .plaintext key iv c) c long (inside .permitted);
+          bytes = fit .plaintext-bytes key iv c (inside .keyed) (inside .permitted) (inside .text-bytes);
+          makes =
+              ap₂ (λ (x y : List ℕ). x ++ y) (fit .seals key iv c (inside .keyed) (inside .permitted) (inside .text-bytes))
+              (fit .authentic-exactly key iv (a ++ b) c t (inside .keyed) (inside .permitted) (inside .text-bytes) (inside .tag-size) .0 e);
+        }
 
-    forth : (p : List ℕ) → DecryptsTo m key iv a b c t out p → sealed m key iv (a ++ b) p ≡ c ++ t
+    forth : (p : List ℕ) → DecryptsTo m key iv a b c t out p → EncryptsTo m key iv (a ++ b) p c t
     forth p d = go (m .authentic key iv (a ++ b) c t) refl
       where
-        go : (r : Bool) → m .authentic key iv (a ++ b) c t ≡ r → sealed m key iv (a ++ b) p ≡ c ++ t
+        go : (r : Bool) → m .authentic key iv (a ++ b) c t ≡ r → EncryptsTo m key iv (a ++ b) p c t
         go true e =
-            ap (sealed m key iv (a ++ b))
-            (sym (over-injective (m .plaintext key iv c) p out (plaintext-length ∙ sym (d .size)) (omega (arith, d .size, inside .room))
-            (ap (λ (u : ℕ × List ℕ). u .1) (one-answer (answers-zero e) (d .answers)))))
-            ∙ seals-back e
+            subst (λ (s : List ℕ). EncryptsTo m key iv (a ++ b) s c t)
+            (over-injective (m .plaintext key iv c) p out (long ∙ sym (d .size)) (omega (arith, d .size, inside .room))
+            (ap (λ (u : ℕ × List ℕ). u .1) (one-answer (answers-zero e) (d .answers))))
+            (seals-back e)
         go false e = absurd (zero-not-nine (one-answer (answers-nine e) (d .answers)))
 
-    back : (p : List ℕ) → sealed m key iv (a ++ b) p ≡ c ++ t → DecryptsTo m key iv a b c t out p
-    back p e = record { size = sym (fit .ciphertext-length key iv p) ∙ ap length (parts .0); answers = answers-zero right ∙ ap (λ (s : List ℕ). (0, over s out)) opened }
+    back : (p : List ℕ) → EncryptsTo m key iv (a ++ b) p c t → DecryptsTo m key iv a b c t out p
+    back p e = record { size = sized; answers = answers-zero right ∙ ap (λ (s : List ℕ). (0, over s out)) opened }
       where
         parts : (m .ciphertext key iv p ≡ c) × (m .tag key iv (a ++ b) p ≡ t)
-        parts = append-apart (m .ciphertext key iv p) (m .tag key iv (a ++ b) p) c t (fit .tag-length key iv (a ++ b) p ∙ sym (inside .tag-size)) e
+        parts =
+            append-apart (m .ciphertext key iv p) (m .tag key iv (a ++ b) p) c t
+            (fit .tag-length key iv (a ++ b) p (inside .keyed) (e .permitted) ∙ sym (inside .tag-size)) (e .makes)
+
+        sized : length p ≡ length c
+        sized = sym (fit .ciphertext-length key iv p (inside .keyed) (e .permitted)) ∙ ap length (parts .0)
 
         opened : m .plaintext key iv c ≡ p
-        opened = ap (m .plaintext key iv) (sym (parts .0)) ∙ fit .opens key iv p
+        opened = ap (m .plaintext key iv) (sym (parts .0)) ∙ fit .opens key iv p (inside .keyed) (e .permitted) (e .bytes)
 
         right : m .authentic key iv (a ++ b) c t ≡ true
-        right = fit .authentic-exactly key iv (a ++ b) c t (inside .tag-size) .1 (ap (m .tag key iv (a ++ b)) opened ∙ parts .1)
+        right =
+            fit .authentic-exactly key iv (a ++ b) c t (inside .keyed) (inside .permitted) (inside .text-bytes) (inside .tag-size) .1
+            (ap (m .tag key iv (a ++ b)) opened ∙ parts .1)
 
   decrypts-exactly : DecryptsExactly m
   decrypts-exactly key iv a b c t out p inside = (forth key iv a b c t out inside p, back key iv a b c t out inside p)
 
   one-plaintext : OnePlaintext m
-  one-plaintext key iv a p p′ e =
-      sym (fit .opens key iv p)
-      ∙ ap (m .plaintext key iv) (append-apart _ _ _ _ (fit .tag-length key iv a p ∙ sym (fit .tag-length key iv a p′)) e .0)
-      ∙ fit .opens key iv p′
+  one-plaintext key iv a p p′ c t keyed e e′ =
+      sym (fit .opens key iv p keyed (e .permitted) (e .bytes))
+      ∙ ap (m .plaintext key iv)
+      (append-apart _ _ _ _ (fit .tag-length key iv a p keyed (e .permitted) ∙ sym (fit .tag-length key iv a p′ keyed (e′ .permitted))) (e .makes ∙ sym (e′ .makes)) .0)
+      ∙ fit .opens key iv p′ keyed (e′ .permitted) (e′ .bytes)
 
   else-nine : ElseNine m
   else-nine key iv a b c t out inside none = go (m .authentic key iv (a ++ b) c t) refl
@@ -108,8 +131,14 @@ module _ (m : Mode) (fit : Fitting m) where
       go false e = answers-nine key iv a b c t out inside e
 
   sealed-length : SealedLength m
-  sealed-length key iv a p =
-      length-append (m .ciphertext key iv p) (m .tag key iv a p) ∙ ap₂ _+_ (fit .ciphertext-length key iv p) (fit .tag-length key iv a p)
+  sealed-length key iv a p keyed permitted =
+      length-append (m .ciphertext key iv p) (m .tag key iv a p)
+      ∙ ap₂ _+_ (fit .ciphertext-length key iv p keyed permitted) (fit .tag-length key iv a p keyed permitted)
+
+  encrypts-in-range : EncryptsInRange m
+  encrypts-in-range key iv a b p out key-size iv-size permitted data-fits text-fits room =
+      encrypt-zero m key iv a b p out (wrongSizes-right m key iv p key-size iv-size permitted) (tooLong-short a b p data-fits text-fits)
+      (le-ltb (length out) (length p + m .tagSize) room)
 
   pub fitting-lawful : Lawful m
   fitting-lawful =
@@ -118,6 +147,9 @@ module _ (m : Mode) (fit : Fitting m) where
         one-plaintext = one-plaintext;
         else-nine = else-nine;
         sealed-length = sealed-length;
-        encrypt-unique = λ key iv a b p out x y. one-answer;
-        decrypt-unique = λ key iv a b c t out x y. one-answer;
+        encrypts-in-range = encrypts-in-range;
+        encrypt-unique = λ key iv a b p out. unique (encryptAnswer m key iv a b p out);
+        decrypt-unique = λ key iv a b c t out. unique (decryptAnswer m key iv a b c t out);
+        encrypt-tests-rise = λ key iv a b p room. refl;
+        decrypt-tests-rise = λ key iv a b c t room. refl;
       }

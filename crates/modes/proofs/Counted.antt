@@ -12,10 +12,12 @@ use lib.ListN.{length}
 use lib.Seq.{take-at, drop-at}
 use Rattle.octets.specs.Values.{values}
 use Rattle.octets.specs.BigEndian.{be, number}
+use Rattle.octets.specs.Bytes.{Bytes}
 use Rattle.octets.specs.Xor.{xors}
 use Rattle.octets.specs.Blocks.{blocks}
-use Rattle.octets.proofs.BigEndian.{number-be}
-use Rattle.octets.proofs.Xor.{length-xors, xors-cancel}
+use Rattle.octets.proofs.Bytes.{bytes-nil, bytes-append, bytes-take}
+use Rattle.octets.proofs.BigEndian.{number-be, bytes-be}
+use Rattle.octets.proofs.Xor.{length-xors, xors-cancel, bytes-xors}
 use Rattle.modes.specs.Counter.{stream, counterBlock, ctr, counterFits}
 use Rattle.modes.specs.Gcm.{inc32, counterBlocks, gctr, preCounter}
 use Rattle.modes.proofs.Stream.{length-stream}
@@ -46,6 +48,17 @@ module _ (f : List ℕ → List ℕ) (icb : List ℕ) where
     gctr-gctr s =
         ap (λ (n : ℕ). xors (gctr f icb s) (stream f (counterBlocks icb (blocks n)))) (length-gctr s)
         ∙ xors-cancel s (stream f (counterBlocks icb (blocks (length s)))) (enough s)
+
+  -- bytes, where the cipher makes bytes of bytes
+  module _ (bytes : (x : List ℕ) → Bytes x → Bytes (f x)) where
+    bytes-stream : {cb : List ℕ} (n : ℕ) → Bytes cb → Bytes (stream f (counterBlocks cb n))
+    unfolding inc32
+    bytes-stream zero h = bytes-nil
+    bytes-stream {cb} (suc n) h = bytes-append (bytes cb h) (bytes-stream n (bytes-append (bytes-take 12 h) (bytes-be 4 _)))
+
+    pub bytes-gctr : {s : List ℕ} → Bytes icb → Bytes s → Bytes (gctr f icb s)
+    unfolding gctr
+    bytes-gctr {s} h hs = bytes-xors hs (bytes-stream (blocks (length s)) h)
 
 -- ---- a front of 12 bytes and a counter of 4
 

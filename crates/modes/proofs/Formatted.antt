@@ -12,19 +12,21 @@ use lib.ListN.{length, getD, take, drop, length-append}
 use lib.Seq.{take-at}
 use Rattle.octets.specs.Values.{values}
 use Rattle.octets.specs.BigEndian.{be}
+use Rattle.octets.specs.Bytes.{Bytes}
 use Rattle.octets.specs.Xor.{xors}
 use Rattle.octets.specs.Same.{same}
 use Rattle.octets.specs.Lent.{over}
 use Rattle.octets.specs.Blocks.{cut, chain}
 use Rattle.octets.specs.Running.{absorb, close}
 use Rattle.octets.proofs.Values.{values-list}
+use Rattle.octets.proofs.Bytes.{bytes-cons}
 use Rattle.octets.proofs.Xor.{length-xors, xors-cancel}
 use Rattle.octets.proofs.Same.{same-equal, same-refl, same-differ}
 use Rattle.octets.proofs.Blocks.{cut-next, chain-append, length-chain}
 use Rattle.octets.proofs.Running.{absorb-append, close-chain}
 use Rattle.modes.specs.Counter.{counterBlock, ctr, frontOf}
 use Rattle.modes.specs.Ccm.{flags, firstBlock, dataBlocks, mac, front, firstPad, text, tagOf, tagRight}
-use Rattle.modes.proofs.Stream.{length-ctr, ctr-ctr}
+use Rattle.modes.proofs.Stream.{length-ctr, ctr-ctr, bytes-ctr}
 use Rattle.octets.proofs.Lent.{over-then}
 
 -- ---- the first block and the counter blocks' front
@@ -91,6 +93,10 @@ module _ (f : List ℕ → List ℕ) (size : (x : List ℕ) → length (f x) ≡
   pub text-text : (s : List ℕ) → text f iv (text f iv s) ≡ s
   unfolding text
   text-text s = ctr-ctr f size 3 (front iv) 1 s
+
+  pub bytes-text : ((x : List ℕ) → Bytes x → Bytes (f x)) → {s : List ℕ} → Bytes iv → Bytes s → Bytes (text f iv s)
+  unfolding text
+  bytes-text bytes hv = bytes-ctr f bytes 3 (bytes-cons (lit< tt) hv) 1
 
   -- from the counter blocks' front as the code has it
   pub text-counted : (s base : List ℕ) → length iv ≡ 12 → base ≡ front iv ++ be 3 0 → text f iv s ≡ ctr f 3 (frontOf false base) 1 s

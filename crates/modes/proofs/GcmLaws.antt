@@ -7,10 +7,10 @@ use mathlib.Core.List.{List}
 use Prim.Native.Nat.{ℕ}
 use Rattle.aes.specs.Cipher.{cipher}
 use Rattle.aes.specs.KeyExpansion.{schedule}
-use Rattle.aes.proofs.Laws.{cipher-length}
+use Rattle.aes.proofs.Laws.{cipher-length, cipher-bytes}
 use Rattle.modes.specs.Gcm.{text, tagOf, tagRight, gcm}
 use Rattle.modes.specs.Laws.{Lawful}
-use Rattle.modes.proofs.Tagged.{length-text, length-tagOf, text-text}
+use Rattle.modes.proofs.Tagged.{length-text, bytes-text, length-tagOf, text-text}
 use Rattle.modes.proofs.BothWays.{Fitting, same-exactly, fitting-lawful}
 
 opened : (key iv s : List ℕ) → text (cipher (schedule key)) iv (text (cipher (schedule key)) iv s) ≡ s
@@ -33,11 +33,15 @@ right-exactly key iv a c t = (λ h. again ∙ exactly .0 h, λ h. exactly .1 (sy
 pub gcm-fitting : Fitting gcm
 gcm-fitting =
     record {
-      ciphertext-length = λ key iv p. length-text (cipher (schedule key)) (cipher-length (schedule key)) iv p;
-      tag-length = λ key iv a p. length-tagOf (cipher (schedule key)) (cipher-length (schedule key)) iv a (text (cipher (schedule key)) iv p);
-      opens = opened;
-      seals = opened;
-      authentic-exactly = λ key iv a c t size. right-exactly key iv a c t;
+      ciphertext-length = λ key iv p keyed any. length-text (cipher (schedule key)) (cipher-length (schedule key)) iv p;
+      plaintext-length = λ key iv c keyed any. length-text (cipher (schedule key)) (cipher-length (schedule key)) iv c;
+      plaintext-bytes =
+          λ key iv c keyed any.
+          bytes-text (cipher (schedule key)) (cipher-length (schedule key)) iv (λ (x : List ℕ). cipher-bytes key x (keyed .key-bytes)) (keyed .iv-bytes);
+      tag-length = λ key iv a p keyed any. length-tagOf (cipher (schedule key)) (cipher-length (schedule key)) iv a (text (cipher (schedule key)) iv p);
+      opens = λ key iv p keyed any bytes. opened key iv p;
+      seals = λ key iv c keyed any bytes. opened key iv c;
+      authentic-exactly = λ key iv a c t keyed any bytes size. right-exactly key iv a c t;
     }
 
 pub gcm-lawful : Lawful gcm

@@ -8,6 +8,7 @@ pub mod Chained
 pub mod Formatted
 pub mod Opened
 pub mod Numbers
+pub mod Named
 pub mod BothWays
 pub mod CcmLaws
 pub mod Counted

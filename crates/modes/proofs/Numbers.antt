@@ -12,7 +12,7 @@ use Rattle.octets.specs.Lent.{isNot, lowest, over, answer}
 use Rattle.octets.proofs.Tests.{or-left, or-right}
 use Rattle.octets.proofs.Lent.{isNot-false, isNot-right, answer-refused}
 use Rattle.modes.specs.Mode.{Mode, sealed}
-use Rattle.modes.specs.Calls.{dataMax, textMax, tooLong, encryptNumber, encryptAnswer, decryptNumber, decryptAnswer}
+use Rattle.modes.specs.Calls.{dataMax, textMax, wrongSizes, tooLong, encryptNumber, encryptAnswer, decryptNumber, decryptAnswer}
 
 -- ---- a number that is handed on with the output after it
 
@@ -36,6 +36,9 @@ module _ (n k : ℕ) (key iv : List ℕ) where
   pub sizes-right : length key ≡ n → length iv ≡ k → (isNot n key || isNot k iv) ≡ false
   sizes-right ek ev = rw (eq-eqb (length key) n ek, eq-eqb (length iv) k ev)
 
+pub wrongSizes-right : (m : Mode) (key iv s : List ℕ) → length key ≡ m .keySize → length iv ≡ m .ivSize → m .permits (length s) ≡ true → wrongSizes m key iv s ≡ false
+wrongSizes-right m key iv s ek ev es = rw (es, eq-eqb (length key) (m .keySize) ek, eq-eqb (length iv) (m .ivSize) ev)
+
 module _ (a b s : List ℕ) where
   module _ (short : tooLong a b s ≡ false) where
     pub data-fits : length a + length b ≤ dataMax
@@ -50,11 +53,11 @@ module _ (a b s : List ℕ) where
 -- ---- encryption
 
 module _ (m : Mode) (key iv a b p out : List ℕ) where
-  pub encrypt-two : (isNot (m .keySize) key || isNot (m .ivSize) iv) ≡ true → encryptAnswer m key iv a b p out ≡ (2, out)
+  pub encrypt-two : wrongSizes m key iv p ≡ true → encryptAnswer m key iv a b p out ≡ (2, out)
   unfolding encryptAnswer encryptNumber
   encrypt-two wrong = rw wrong
 
-  module _ (right : (isNot (m .keySize) key || isNot (m .ivSize) iv) ≡ false) where
+  module _ (right : wrongSizes m key iv p ≡ false) where
     pub encrypt-four : tooLong a b p ≡ true → encryptAnswer m key iv a b p out ≡ (4, out)
     unfolding encryptAnswer encryptNumber
     encrypt-four long = rw (right, long)
@@ -85,11 +88,11 @@ module _ (right : Bool) (s out : List ℕ) where
   opened-right e = rw e
 
 module _ (m : Mode) (key iv a b c t out : List ℕ) where
-  pub decrypt-two : (isNot (m .keySize) key || isNot (m .ivSize) iv) ≡ true → decryptAnswer m key iv a b c t out ≡ (2, out)
+  pub decrypt-two : wrongSizes m key iv c ≡ true → decryptAnswer m key iv a b c t out ≡ (2, out)
   unfolding decryptAnswer decryptNumber
   decrypt-two wrong = rw wrong
 
-  module _ (right : (isNot (m .keySize) key || isNot (m .ivSize) iv) ≡ false) where
+  module _ (right : wrongSizes m key iv c ≡ false) where
     pub decrypt-two-tag : isNot (m .tagSize) t ≡ true → decryptAnswer m key iv a b c t out ≡ (2, out)
     unfolding decryptAnswer decryptNumber
     decrypt-two-tag wrong = rw (right, wrong)
@@ -110,12 +113,6 @@ module _ (m : Mode) (key iv a b c t out : List ℕ) where
           unfolding decryptAnswer decryptNumber
           decrypt-opened = rw (right, tag-right, short, room)
 
-          pub decrypt-nine : m .authentic key iv (a ++ b) c t ≡ false → decryptAnswer m key iv a b c t out ≡ (9, out)
-          decrypt-nine e = decrypt-opened ∙ opened-wrong (m .authentic key iv (a ++ b) c t) (m .plaintext key iv c) out e
-
-          pub decrypt-zero : m .authentic key iv (a ++ b) c t ≡ true → decryptAnswer m key iv a b c t out ≡ (0, over (m .plaintext key iv c) out)
-          decrypt-zero e = decrypt-opened ∙ opened-right (m .authentic key iv (a ++ b) c t) (m .plaintext key iv c) out e
-
           -- with copies of the key and of the IV
           pub decrypt-done : (k v : List ℕ) (x : ℕ × List ℕ) → k ≡ key → v ≡ iv
               → answer (lowest ((9, not (m .authentic k v (a ++ b) c t)) ∷ [])) (m .plaintext k v c) out ≡ x → decryptAnswer m key iv a b c t out ≡ x
@@ -123,3 +120,11 @@ module _ (m : Mode) (key iv a b c t out : List ℕ) where
               decrypt-opened
               ∙ sym (ap₂ (λ (k v : List ℕ). answer (lowest ((9, not (m .authentic k v (a ++ b) c t)) ∷ [])) (m .plaintext k v c) out) ek ev)
               ∙ e
+
+  -- in range the tag decides
+  pub decrypt-in-range : length key ≡ m .keySize → length iv ≡ m .ivSize → m .permits (length c) ≡ true → length t ≡ m .tagSize
+      → length a + length b ≤ dataMax → length c ≤ textMax → length c ≤ length out
+      → decryptAnswer m key iv a b c t out ≡ answer (lowest ((9, not (m .authentic key iv (a ++ b) c t)) ∷ [])) (m .plaintext key iv c) out
+  decrypt-in-range key-size iv-size permitted tag-size data-short text-short fits =
+      decrypt-opened (wrongSizes-right m key iv c key-size iv-size permitted) (isNot-right _ t tag-size) (tooLong-short a b c data-short text-short)
+      (le-ltb (length out) (length c) fits)

@@ -9,11 +9,14 @@ use native.Mathlib.Omega.{arith}
 use lib.ListN.{length, take, drop, length-append, length-drop, take-append-drop, drop-of-length-le}
 use lib.Seq.{length-take-le, take-append-le, drop-append-le}
 use Rattle.octets.specs.Values.{values}
+use Rattle.octets.specs.Bytes.{Bytes}
 use Rattle.octets.specs.Xor.{xors}
 use Rattle.octets.specs.Blocks.{blocks}
 use Rattle.octets.specs.Lent.{over}
 use Rattle.octets.proofs.Values.{length-values}
-use Rattle.octets.proofs.Xor.{length-xors, xors-cancel, xors-append}
+use Rattle.octets.proofs.Bytes.{bytes-nil, bytes-append}
+use Rattle.octets.proofs.BigEndian.{bytes-be}
+use Rattle.octets.proofs.Xor.{length-xors, xors-cancel, xors-append, bytes-xors}
 use Rattle.octets.proofs.Lent.{over-fits}
 use Rattle.modes.specs.Counter.{stream, counterBlock, ctr}
 use Rattle.modes.specs.Laws.{CounterTwice}
@@ -92,6 +95,17 @@ module _ (f : List ℕ → List ℕ) (size : (x : List ℕ) → length (f x) ≡
     ctr-ctr i s =
         ap (λ (n : ℕ). xors (ctr f w front i s) (stream f (values (counterBlock w front) i (blocks n)))) (length-ctr i s)
         ∙ xors-cancel s (stream f (values (counterBlock w front) i (blocks (length s)))) (enough i s)
+
+-- ---- bytes, where the cipher makes bytes of bytes
+
+module _ (f : List ℕ → List ℕ) (bytes : (x : List ℕ) → Bytes x → Bytes (f x)) (w : ℕ) {front : List ℕ} (front-bytes : Bytes front) where
+  bytes-stream : (i n : ℕ) → Bytes (stream f (values (counterBlock w front) i n))
+  bytes-stream i zero = bytes-nil
+  bytes-stream i (suc n) = bytes-append (bytes (counterBlock w front i) (bytes-append front-bytes (bytes-be w i))) (bytes-stream (suc i) n)
+
+  pub bytes-ctr : (i : ℕ) {s : List ℕ} → Bytes s → Bytes (ctr f w front i s)
+  unfolding ctr
+  bytes-ctr i {s} hs = bytes-xors hs (bytes-stream i (blocks (length s)))
 
 pub counter-twice : CounterTwice
 counter-twice f size w front i s = ctr-ctr f size w front i s

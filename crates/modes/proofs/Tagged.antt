@@ -9,17 +9,20 @@ use lib.ListN.{length, getD, length-append}
 use lib.Seq.{take-at}
 use Rattle.octets.specs.Values.{values}
 use Rattle.octets.specs.BigEndian.{be}
+use Rattle.octets.specs.Bytes.{Bytes}
 use Rattle.octets.specs.Xor.{xors}
 use Rattle.octets.specs.Lent.{over}
 use Rattle.octets.specs.Blocks.{cut}
 use Rattle.octets.proofs.Values.{values-list}
+use Rattle.octets.proofs.Bytes.{bytes-append, bytes-take}
+use Rattle.octets.proofs.BigEndian.{bytes-be}
 use Rattle.ghash.specs.Ghash.{zeros, ghash}
 use Rattle.ghash.proofs.Laws.{ghash-length}
 use Rattle.modes.specs.Counter.{counterBlock, ctr, counterAnswer, frontOf}
 use Rattle.modes.specs.Gcm.{inc32, hashKey, preCounter, text, lengthsBlock, tagOf}
 use Rattle.modes.specs.Calls.{textMax}
 use Rattle.modes.proofs.Limits.{counterFits-four, counterAnswer-fits}
-use Rattle.modes.proofs.Counted.{gctr-block, length-gctr, gctr-gctr, gctr-two}
+use Rattle.modes.proofs.Counted.{gctr-block, length-gctr, gctr-gctr, bytes-gctr, gctr-two}
 
 -- ---- the counter blocks' front and the block of lengths, byte by byte
 
@@ -83,6 +86,10 @@ module _ (f : List ℕ → List ℕ) where
     pub text-text : (s : List ℕ) → text f iv (text f iv s) ≡ s
     unfolding text
     text-text s = gctr-gctr f (inc32 (preCounter iv)) size s
+
+    pub bytes-text : ((x : List ℕ) → Bytes x → Bytes (f x)) → {s : List ℕ} → Bytes iv → Bytes s → Bytes (text f iv s)
+    unfolding text inc32
+    bytes-text bytes hv = bytes-gctr f (inc32 (preCounter iv)) bytes (bytes-append (bytes-take 12 (bytes-append hv (bytes-be 4 1))) (bytes-be 4 _))
 
     pub length-tagOf : (a c : List ℕ) → length (tagOf f iv a c) ≡ 16
     unfolding tagOf

@@ -1,7 +1,7 @@
 -- CCM: SP 800-38C, section 6 with the formatting of appendix A, at a tag of t = 16 bytes and a length field of q = 3 bytes.
 -- Assumes nothing.
 use Prim.Native.Nat.{ℕ, _+_, _-_, _*_, _/_}
-use mathlib.Core.Bool.{Bool, not}
+use mathlib.Core.Bool.{Bool, true, not}
 use mathlib.Core.List.{List, [], _∷_, _++_}
 use lib.Dec.{eqb}
 use lib.ListN.{length}
@@ -66,6 +66,7 @@ ccm =
       keySize = 32;
       ivSize = 12;
       tagSize = tagSize;
+      permits = λ n. true;
       ciphertext = λ key. text (cipher (schedule key));
       tag = λ key. tagOf (cipher (schedule key));
       authentic = λ key. tagRight (cipher (schedule key));

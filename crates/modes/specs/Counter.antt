@@ -8,7 +8,7 @@ use lib.ListN.{length, take}
 use Rattle.octets.specs.Values.{values}
 use Rattle.octets.specs.BigEndian.{be}
 use Rattle.octets.specs.Xor.{xors}
-use Rattle.octets.specs.Lent.{when, lowest, answer}
+use Rattle.octets.specs.Lent.{Tests, when, lowest, answer}
 use Rattle.octets.specs.Blocks.{blocks}
 
 -- what the cipher f makes of counter blocks, end to end
@@ -27,8 +27,11 @@ ctr f w front i s = xors s (stream f (values (counterBlock w front) i (blocks (l
 abbrev pub counterFits : ℕ → ℕ → ℕ → Bool
 counterFits w i n = leb (i + blocks n) (256 ^ w)
 
+abbrev pub counterTests : ℕ → ℕ → ℕ → Tests
+counterTests w i n = (11, not (counterFits w i n)) ∷ []
+
 unfoldable pub counterNumber : ℕ → ℕ → ℕ → ℕ
-counterNumber w i n = lowest ((11, not (counterFits w i n)) ∷ [])
+counterNumber w i n = lowest (counterTests w i n)
 
 unfoldable pub counterAnswer : (List ℕ → List ℕ) → ℕ → List ℕ → ℕ → List ℕ → List ℕ → ℕ × List ℕ
 counterAnswer f w front i s out = answer (counterNumber w i (length s)) (ctr f w front i s) out

@@ -1,7 +1,7 @@
 -- GCM: SP 800-38D, sections 6 and 7, at a 96-bit IV and a tag of 16 bytes.
 -- Assumes nothing.
 use Prim.Native.Nat.{ℕ, zero, suc, _+_, _*_, _%_, _^_}
-use mathlib.Core.Bool.{Bool}
+use mathlib.Core.Bool.{Bool, true}
 use mathlib.Core.List.{List, [], _∷_, _++_}
 use lib.ListN.{length, take, drop, replicate}
 use Rattle.octets.specs.BigEndian.{be, number}
@@ -57,6 +57,7 @@ gcm =
       keySize = 32;
       ivSize = 12;
       tagSize = 16;
+      permits = λ n. true;
       ciphertext = λ key. text (cipher (schedule key));
       tag = λ key iv a p. tagOf (cipher (schedule key)) iv a (text (cipher (schedule key)) iv p);
       authentic = λ key. tagRight (cipher (schedule key));

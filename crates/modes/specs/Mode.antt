@@ -8,6 +8,8 @@ pub record Mode : Type 0 where
   pub keySize : ℕ
   pub ivSize : ℕ
   pub tagSize : ℕ
+  -- the lengths of plaintext that it permits; a ciphertext is as long as its plaintext
+  pub permits : ℕ → Bool
   -- key, IV, associated data, plaintext: the ciphertext, and the tag
   pub ciphertext : List ℕ → List ℕ → List ℕ → List ℕ
   pub tag : List ℕ → List ℕ → List ℕ → List ℕ → List ℕ
