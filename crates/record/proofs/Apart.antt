@@ -5,20 +5,19 @@ use mathlib.Core.Bool.{Bool, true, false, not}
 use mathlib.Core.List.{List, [], _∷_}
 use Prim.Native.Nat.{ℕ, _+_, _≤_}
 use native.Mathlib.Omega.{arith}
-use borrow.Author.Tests.{le-ltb}
 use lib.ListN.{length}
 use Rattle.octets.specs.Lent.{lowest, over, answer}
 use Rattle.octets.specs.Tests.{partOf}
-use Rattle.octets.proofs.Lent.{isNot-right}
 use Rattle.keytable.specs.Row.{keySize}
 use Rattle.modes.specs.Calls.{decryptAnswer}
-use Rattle.modes.proofs.Numbers.{sizes-right, tooLong-short, decrypt-opened}
-use Rattle.record.specs.Record.{modeOf, modeFor, modeIn, countIn, nameSize, layoutOk, frontIn, ivIn, textIn, tagIn}
+use Rattle.modes.proofs.Numbers.{decrypt-in-range}
+use Rattle.modes.specs.Modes.{modeOf}
+use Rattle.record.specs.Record.{modeFor, modeIn, countIn, nameSize, layoutOk, frontIn, ivIn, textIn, tagIn}
 use Rattle.record.specs.Read.{passes}
 use Rattle.record.specs.Seal.{callersMax}
 use Rattle.record.specs.Open.{authenticBy, plaintextBy}
 use Rattle.record.proofs.Numbers.{key-size}
-use Rattle.record.proofs.Parts.{length-frontIn, length-ivIn, length-textIn, length-tagIn}
+use Rattle.record.proofs.Parts.{length-frontIn, length-ivIn, length-textIn, length-tagIn, permits-textIn}
 use Rattle.record.proofs.Reading.{Accepted, name-short, count-small}
 
 -- what the tag decided, by the number that was answered
@@ -44,11 +43,9 @@ pub parts-opened : (key r a out : List ℕ) → layoutOk r ≡ true → passes (
     ≡ answer (lowest ((9, not (authenticBy key r a)) ∷ [])) (plaintextBy key r) out
 unfolding authenticBy plaintextBy
 parts-opened key r a out good short key-right aad-short room =
-    decrypt-opened (modeFor r) key (ivIn r) (frontIn r) a (textIn r) (tagIn r) out
-    (sizes-right _ _ key (ivIn r) (key-right ∙ sym (key-size (modeIn r))) (length-ivIn r good))
-    (isNot-right _ (tagIn r) (length-tagIn r good))
-    (tooLong-short (frontIn r) a (textIn r) (omega (arith, length-frontIn r good, name-short r short)) (omega (arith, length-textIn r good, count-small r short)))
-    (le-ltb (length out) (length (textIn r)) (omega (arith, length-textIn r good)))
+    decrypt-in-range (modeFor r) key (ivIn r) (frontIn r) a (textIn r) (tagIn r) out
+    (key-right ∙ sym (key-size (modeIn r))) (length-ivIn r good) (permits-textIn r good) (length-tagIn r good)
+    (omega (arith, length-frontIn r good, name-short r short)) (omega (arith, length-textIn r good, count-small r short)) (omega (arith, length-textIn r good))
 
 -- the same, of parts cut by fields that were read, and by the mode's lengths
 pub fields-opened : (key r a out : List ℕ) (u k n v t : ℕ) → Accepted r u k n → v ≡ modeOf u .ivSize → t ≡ modeOf u .tagSize

@@ -9,31 +9,20 @@ use native.Mathlib.Omega.{arith}
 use borrow.Author.Tests.{ltb-false, le-ltb}
 use lib.Dec.{eqb, ltb}
 use lib.ListN.{length}
-use Rattle.octets.specs.Lent.{when, isNot, lowest, over}
+use Rattle.octets.specs.Lent.{isNot, lowest, over}
 use Rattle.octets.proofs.Tests.{or-left, or-right}
 use Rattle.keytable.specs.Row.{nameMax, useOf, keyOf}
 use Rattle.keytable.specs.Calls.{missing, useIn}
-use Rattle.modes.specs.Mode.{Mode}
-use Rattle.modes.specs.Ccm.{ccm}
-use Rattle.modes.specs.Gcm.{gcm}
 use Rattle.modes.specs.Calls.{textMax}
-use Rattle.modes.proofs.BothWays.{Fitting}
-use Rattle.modes.proofs.CcmLaws.{ccm-fitting}
-use Rattle.modes.proofs.GcmLaws.{gcm-fitting}
-use Rattle.record.specs.Record.{namesMode, modeOf, modeIn, countIn, nameSize, layoutOk}
+use Rattle.modes.proofs.Named.{each-mode}
+use Rattle.modes.proofs.Laws.{modes-permit}
+use Rattle.modes.specs.Modes.{namesMode, modeOf}
+use Rattle.record.specs.Record.{modeIn, countIn, nameSize, layoutOk}
 use Rattle.record.specs.Read.{passes}
 use Rattle.record.specs.Seal.{callersMax, sealNumber, readyBy}
 use Rattle.record.specs.Open.{authenticBy, plaintextBy, openNumber, openRow}
 
 -- ---- lengths by mode
-
-module _ (P : Mode → Type 0) (of-gcm : P gcm) (of-ccm : P ccm) where
-  pub each-mode : (u : ℕ) → P (modeOf u)
-  each-mode u = go (eqb u 2)
-    where
-      go : (b : Bool) → P (when b gcm ccm)
-      go true = of-gcm
-      go false = of-ccm
 
 pub iv-small : (u : ℕ) → modeOf u .ivSize ≤ 64
 iv-small = each-mode (λ m. m .ivSize ≤ 64) (omega arith) (omega arith)
@@ -55,39 +44,56 @@ too-long name a n = passes (length name) n || ltb callersMax (length a)
 abbrev no-room : ℕ → ℕ → List ℕ → ℕ → ℕ → Bool
 no-room v t name n room = ltb room (24 + length name + v + n + t)
 
+or-false : (b : Bool) → (b || false) ≡ b
+or-false true = refl
+or-false false = refl
+
 module _ (ok : Bool) (row : Option (List ℕ)) (name iv a : List ℕ) (n room : ℕ) where
+  -- both modes permit every count
+  seal-numbers : sealNumber ok row name iv a n room
+      ≡ lowest
+      ((1, not ok)
+      ∷ (2, short-or-wrong (modeOf (useIn row) .ivSize) name iv)
+      ∷ (4, too-long name a n)
+      ∷ (5, no-room (modeOf (useIn row) .ivSize) (modeOf (useIn row) .tagSize) name n room)
+      ∷ (6, missing row)
+      ∷ (7, not (namesMode (useIn row)))
+      ∷ [])
+  unfolding sealNumber
+  seal-numbers = rw (modes-permit (useIn row) n, or-false (short-or-wrong (modeOf (useIn row) .ivSize) name iv))
+
   pub ready-one : ok ≡ false → readyBy ok row name iv a n room ≡ (1, none)
-  unfolding readyBy sealNumber
-  ready-one e = rw e
+  unfolding readyBy
+  ready-one e = rw (seal-numbers, e)
 
   module _ (good : ok ≡ true) (v : ℕ) (ivs : v ≡ modeOf (useIn row) .ivSize) where
     pub ready-two : short-or-wrong v name iv ≡ true → readyBy ok row name iv a n room ≡ (2, none)
-    unfolding readyBy sealNumber
-    ready-two e = rw (good, ← ivs, e)
+    unfolding readyBy
+    ready-two e = rw (seal-numbers, good, ← ivs, e)
 
     module _ (sizes : short-or-wrong v name iv ≡ false) where
       pub ready-four : too-long name a n ≡ true → readyBy ok row name iv a n room ≡ (4, none)
-      unfolding readyBy sealNumber
-      ready-four e = rw (good, ← ivs, sizes, e)
+      unfolding readyBy
+      ready-four e = rw (seal-numbers, good, ← ivs, sizes, e)
 
       module _ (short : too-long name a n ≡ false) (t : ℕ) (tags : t ≡ modeOf (useIn row) .tagSize) where
         pub ready-five : no-room v t name n room ≡ true → readyBy ok row name iv a n room ≡ (5, none)
-        unfolding readyBy sealNumber
-        ready-five e = rw (good, ← ivs, ← tags, sizes, short, e)
+        unfolding readyBy
+        ready-five e = rw (seal-numbers, good, ← ivs, ← tags, sizes, short, e)
 
         module _ (fits : no-room v t name n room ≡ false) where
           pub ready-six : row ≡ none → readyBy ok row name iv a n room ≡ (6, none)
-          unfolding readyBy sealNumber
-          ready-six e = rw (good, ← ivs, ← tags, sizes, short, fits, e)
+          unfolding readyBy
+          ready-six e = rw (seal-numbers, good, ← ivs, ← tags, sizes, short, fits, e)
 
           module _ (found : List ℕ) (has : row ≡ some found) where
             pub ready-seven : namesMode (useIn row) ≡ false → readyBy ok row name iv a n room ≡ (7, none)
-            unfolding readyBy sealNumber
-            ready-seven e = rw (good, ← ivs, ← tags, sizes, short, fits, e, has)
+            unfolding readyBy
+            ready-seven e = rw (seal-numbers, good, ← ivs, ← tags, sizes, short, fits, e, has)
 
             pub ready-zero : namesMode (useIn row) ≡ true → readyBy ok row name iv a n room ≡ (0, some found)
-            unfolding readyBy sealNumber
-            ready-zero e = rw (good, ← ivs, ← tags, sizes, short, fits, e, has)
+            unfolding readyBy
+            ready-zero e = rw (seal-numbers, good, ← ivs, ← tags, sizes, short, fits, e, has)
 
 -- ---- opening
 
@@ -136,10 +142,6 @@ module _ (ok : Bool) (row : Option (List ℕ)) (r a out : List ℕ) (count : ℕ
                 open-zero e = rw (good, layout, mode-ok, short, room, has, same-use, e)
 
 -- ---- for both directions
-
--- both modes' directions fit each other
-pub fitting : (u : ℕ) → Fitting (modeOf u)
-fitting = each-mode Fitting gcm-fitting ccm-fitting
 
 -- no maximum is passed
 pub within-maxima : (k n : ℕ) (a : List ℕ) → (passes k n || ltb callersMax (length a)) ≡ false → (k ≤ nameMax) × (n ≤ textMax) × (length a ≤ callersMax)

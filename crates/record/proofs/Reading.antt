@@ -13,7 +13,8 @@ use Rattle.octets.specs.Lent.{lowest}
 use Rattle.octets.proofs.Tests.{or-left, or-right}
 use Rattle.keytable.specs.Row.{nameMax}
 use Rattle.modes.specs.Calls.{textMax}
-use Rattle.record.specs.Record.{namesMode, modeIn, countIn, nameSize, layoutOk}
+use Rattle.modes.specs.Modes.{namesMode}
+use Rattle.record.specs.Record.{modeIn, countIn, nameSize, layoutOk}
 use Rattle.record.specs.Read.{passes, readNumber, headerSays, readAnswer}
 use Rattle.record.specs.Open.{openRow}
 use Rattle.record.proofs.Numbers.{open-two, open-three, open-four}

@@ -4,21 +4,23 @@ use mathlib.Core.Path.{_≡_}
 use mathlib.Core.Logic.{_↔_}
 use mathlib.Core.Bool.{Bool, true, false}
 use mathlib.Core.List.{List, _++_}
-use mathlib.Core.Option.{Option}
+use mathlib.Core.Option.{Option, some}
 use Prim.Native.Nat.{ℕ, zero, suc, _^_, _≤_, _<_}
 use lib.ListN.{length, take, drop}
 use Rattle.octets.specs.Bytes.{Bytes}
+use Rattle.octets.specs.Lent.{over}
 use Rattle.octets.specs.Lowest.{rises}
 use Rattle.octets.specs.Unique.{Unique, UniqueBy}
-use Rattle.keytable.specs.Row.{nameMax}
+use Rattle.keytable.specs.Row.{nameMax, useOf, keyOf}
 use Rattle.keytable.specs.Table.{tableOk, rowFor}
 use Rattle.modes.specs.Calls.{textMax}
+use Rattle.modes.specs.Modes.{namesMode, modeOf}
 use Rattle.session.specs.Iv.{isSpent, ivOf, after}
 use Rattle.session.specs.Calls.{Answer, sessionAfter}
 use Rattle.session.specs.declared.Session.{Session}
 use Rattle.record.specs.Record.{modeIn, countIn, nameSize, layoutOk, frontIn, nameIn, ivIn, front}
 use Rattle.record.specs.Read.{readTests, headerSays, readNumber, readAnswer}
-use Rattle.record.specs.Seal.{sealedSize, sealTests, sealAnswer}
+use Rattle.record.specs.Seal.{callersMax, recordOf, sealedSize, sealTests, sealAnswer}
 use Rattle.record.specs.Open.{openTests, openAnswer}
 use Rattle.record.specs.Next.{sealedSays, sealNextTests, sealNextAnswer}
 
@@ -37,6 +39,32 @@ HeaderThere = (u n : ℕ) (name rest : List ℕ) → length name ≤ nameMax →
 -- the first 24+k bytes of a record that keeps to the layout are the header written from its fields, and its name
 abbrev pub HeaderBack : Type 0
 HeaderBack = (r : List ℕ) → Bytes r → layoutOk r ≡ true → frontIn r ≡ front (modeIn r) (nameIn r) (countIn r)
+
+-- ---- sealing in range
+
+-- an accepted table with a row of the name, whose use is a mode; a name, an IV and n bytes of plaintext that document 01 permits; and room for the record
+pub record InRange (ok : Bool) (found : Option (List ℕ)) (name iv a : List ℕ) (n room : ℕ) : Type 0 where
+  pub accepted : ok ≡ true
+  pub row : List ℕ
+  pub has-row : found ≡ some row
+  pub mode : namesMode (useOf row) ≡ true
+  pub named : 1 ≤ length name
+  pub iv-size : length iv ≡ modeOf (useOf row) .ivSize
+  pub permitted : modeOf (useOf row) .permits n ≡ true
+  pub name-fits : length name ≤ nameMax
+  pub text-fits : n ≤ textMax
+  pub data-fits : length a ≤ callersMax
+  pub room-fits : sealedSize (some row) name n ≤ room
+
+-- sealing then gives 0, and the record of the row's use and key over the front of the output; and 0 in no other case
+abbrev pub SealsInRange : Type 0
+SealsInRange =
+    (t name iv a p out : List ℕ) (h : InRange (tableOk t) (rowFor t name) name iv a (length p) (length out))
+    → sealAnswer t name iv a p out ≡ (0, over (recordOf (useOf (h .row)) (keyOf (h .row)) name iv a p) out)
+
+abbrev pub SealsOnlyInRange : Type 0
+SealsOnlyInRange =
+    (t name iv a p out : List ℕ) → sealAnswer t name iv a p out .0 ≡ 0 → InRange (tableOk t) (rowFor t name) name iv a (length p) (length out)
 
 -- ---- "Between two accepted tables with the same row for a name, or both with none, the other rows change no answer for that name"
 
@@ -66,18 +94,18 @@ pub record Alike (size : ℕ) (out out′ : List ℕ) (x x′ : ℕ × List ℕ)
 
 abbrev pub SealEarlier : Type 0
 SealEarlier =
-    (t name iv a p out out′ : List ℕ) → length out ≡ length out′
+    (t name iv a p out out′ : List ℕ) → Bytes t → Bytes iv → length out ≡ length out′
     → Alike (sealedSize (rowFor t name) name (length p)) out out′ (sealAnswer t name iv a p out) (sealAnswer t name iv a p out′)
 
 abbrev pub OpenEarlier : Type 0
 OpenEarlier =
-    (t r a out out′ : List ℕ) (count count′ : ℕ) → length out ≡ length out′
+    (t r a out out′ : List ℕ) (count count′ : ℕ) → Bytes t → Bytes r → length out ≡ length out′
     → Alike (countIn r) out out′ (openAnswer t r a out count .0) (openAnswer t r a out′ count′ .0)
 
 -- with a session, which is then left the same too
 abbrev pub NextEarlier : Type 0
 NextEarlier =
-    (s : Session) (t name a p out out′ : List ℕ) → length out ≡ length out′
+    (s : Session) (t name a p out out′ : List ℕ) → Bytes t → Bytes (s .prefix) → length out ≡ length out′
     → let x = sealNextAnswer s t name a p out in
     let x′ = sealNextAnswer s t name a p out′ in
     Alike (sealedSize (rowFor t name) name (length p)) out out′ (x .0, x .1) (x′ .0, x′ .1) × (x .2 ≡ x′ .2)

@@ -10,7 +10,8 @@ use Rattle.octets.specs.Lent.{Tests, lowest, kept, answer}
 use Rattle.keytable.specs.Row.{keyOf}
 use Rattle.keytable.specs.Table.{tableOk, rowFor}
 use Rattle.keytable.specs.Calls.{missing, useIn}
-use Rattle.record.specs.Record.{namesMode, modeFor, modeIn, countIn, nameSize, layoutOk, frontIn, nameIn, ivIn, textIn, tagIn}
+use Rattle.modes.specs.Modes.{namesMode}
+use Rattle.record.specs.Record.{modeFor, modeIn, countIn, nameSize, layoutOk, frontIn, nameIn, ivIn, textIn, tagIn}
 use Rattle.record.specs.Read.{passes}
 use Rattle.record.specs.Seal.{callersMax}
 

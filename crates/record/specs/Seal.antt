@@ -11,7 +11,8 @@ use Rattle.keytable.specs.Row.{useOf, keyOf}
 use Rattle.keytable.specs.Table.{tableOk, rowFor, rowAt}
 use Rattle.keytable.specs.Calls.{missing, useIn}
 use Rattle.modes.specs.Mode.{sealed}
-use Rattle.record.specs.Record.{namesMode, modeOf, endAt, front}
+use Rattle.modes.specs.Modes.{namesMode, modeOf}
+use Rattle.record.specs.Record.{endAt, front}
 use Rattle.record.specs.Read.{passes}
 use Rattle.keytable.specs.declared.Found.{Found}
 use Rattle.keytable.specs.declared.Found.the-variants.{At as FoundAt, Nothing}
@@ -39,7 +40,7 @@ sealedSize row name n = endAt (modeOf (useIn row)) (length name) n
 abbrev pub sealTests : Bool → Option (List ℕ) → List ℕ → List ℕ → List ℕ → ℕ → ℕ → Tests
 sealTests ok row name iv a n room =
     (1, not ok)
-    ∷ (2, eqb (length name) 0 || isNot (modeOf (useIn row) .ivSize) iv)
+    ∷ (2, eqb (length name) 0 || isNot (modeOf (useIn row) .ivSize) iv || not (modeOf (useIn row) .permits n))
     ∷ (4, passes (length name) n || ltb callersMax (length a))
     ∷ (5, ltb room (sealedSize row name n))
     ∷ (6, missing row)

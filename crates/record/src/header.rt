@@ -1,11 +1,11 @@
 // A record's header, read and written. Sums are made in 64 bits, so that no count makes them come round.
-use crate::mode::iv_size;
-use crate::mode::names_mode;
-use crate::mode::tag_size;
 use crate::sizes::NAME_AT;
 use crate::sizes::NAME_MAX;
 use crate::sizes::RECORD_FORMAT;
 use crate::sizes::TEXT_MAX;
+use modes::iv_size;
+use modes::names_mode;
+use modes::tag_size;
 use octets::big_endian::read8;
 use octets::big_endian::read16;
 use octets::big_endian::read32;

@@ -2,15 +2,15 @@
 use crate::header::Header;
 use crate::header::number_of;
 use crate::header::read;
-use crate::mode::decrypt;
-use crate::mode::iv_size;
-use crate::mode::tag_size;
 use crate::sizes::CALLERS_MAX;
 use crate::sizes::NAME_AT;
 use keytable::Found;
 use keytable::Table;
 use keytable::key_at;
 use keytable::use_at;
+use modes::decrypt;
+use modes::iv_size;
+use modes::tag_size;
 use octets::strings::part;
 ghost use mathlib.Core.Path.{_≡_};
 ghost use mathlib.Core.Bool.{not};

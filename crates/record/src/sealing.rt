@@ -2,18 +2,19 @@
 use crate::header::front_of;
 use crate::header::passes_maximum;
 use crate::header::put_both;
-use crate::mode::encrypt;
-use crate::mode::iv_size;
-use crate::mode::names_mode;
-use crate::mode::tag_size;
 use crate::sizes::CALLERS_MAX;
 use crate::sizes::NAME_AT;
 use keytable::Found;
 use keytable::Table;
 use keytable::key_at;
 use keytable::use_at;
+use modes::encrypt;
+use modes::iv_size;
+use modes::names_mode;
+use modes::tag_size;
 use octets::strings::part;
 ghost use mathlib.Core.Path.{_≡_};
+ghost use mathlib.Core.Bool.{true};
 ghost use mathlib.Core.Option.{some};
 ghost use Prim.Native.Nat.{_≤_};
 ghost use lib.ListN.{length};
@@ -22,7 +23,8 @@ ghost use Rattle.keytable.specs.Row.{nameMax, keySize};
 ghost use Rattle.keytable.specs.Table.{rowFor, rowAt};
 ghost use Rattle.keytable.specs.Calls.{useIn};
 ghost use Rattle.modes.specs.Calls.{textMax};
-ghost use Rattle.record.specs.Record.{modeOf, endAt};
+ghost use Rattle.modes.specs.Modes.{modeOf};
+ghost use Rattle.record.specs.Record.{endAt};
 ghost use Rattle.record.specs.Seal.{callersMax, recordOf, recordBy, rowFound, readyNumber, readyRow, readyAnswer, sealAnswer};
 
 // What the tests of sealing find: the place of the name's row, or the lowest number that applies.
@@ -33,7 +35,7 @@ pub(crate) enum Ready {
 
 // Writes the record of a use and a key.
 fn fill(u: u8, key: &[u8], name: &[u8], iv: &[u8], aad: &[u8], plain: &[u8], out: &mut [u8])
-    requires { ⌜ (length (now key) ≡ keySize) × (length (now name) ≤ nameMax) × (length (now iv) ≡ modeOf u .ivSize) × (length (now aad) ≤ callersMax) × (length (now plain) ≤ textMax) × (endAt (modeOf u) (length (now name)) (length (now plain)) ≤ length (now out)) ⌝ }
+    requires { ⌜ (length (now key) ≡ keySize) × (length (now name) ≤ nameMax) × (length (now iv) ≡ modeOf u .ivSize) × (modeOf u .permits (length (now plain)) ≡ true) × (length (now aad) ≤ callersMax) × (length (now plain) ≤ textMax) × (endAt (modeOf u) (length (now name)) (length (now plain)) ≤ length (now out)) ⌝ }
     ensures { λ _. ⌜ now (out .exit) ≡ over (recordOf u (now (key .entry)) (now (name .entry)) (now (iv .entry)) (now (aad .entry)) (now (plain .entry))) (now (out .entry)) ⌝ }
 {
     let room = front_of(u, name, plain.len());

@@ -14,7 +14,8 @@ use Rattle.keytable.specs.Table.{tableOk}
 use Rattle.keytable.specs.Laws.{EmptyTable}
 use Rattle.session.specs.Laws.{LastTwo, LastTwoHeld}
 use Rattle.descriptors.specs.Laws.{LabelClaim}
-use Rattle.record.specs.Record.{namesMode, modeOf, nameAt, ivAt, textAt, tagAt, endAt, header}
+use Rattle.modes.specs.Modes.{namesMode, modeOf}
+use Rattle.record.specs.Record.{nameAt, ivAt, textAt, tagAt, endAt, header}
 use Rattle.record.specs.Open.{openAnswer}
 
 -- 1. "S-box of 00h is 63h, of 53h EDh."

@@ -2,8 +2,8 @@
 -- Assumes nothing.
 use native.Mathlib.Omega.{arith}
 use borrow.Author.Needs.{needs}
-use Rattle.record.specs.Record.{layoutOk, modeIn}
 use Rattle.record.proofs.Numbers.{iv-small, tag-small}
+use Rattle.record.proofs.Parts.{layout-tested}
 use Rattle.record.proofs.header.layout_ok.Statement.{statement}
 use Rattle.record.proofs.header.layout_ok.Tie as tie
 
@@ -17,8 +17,21 @@ add-end-at : tie.Need-add-end-at
 add-end-at c = omega (arith, tag-small (c .before .before .before .before .before .mode-in .result), c .tag-size .ensures)
 
 returns : tie.Need-returns
-unfolding layoutOk
-returns c = cc
+returns c =
+    let f = c .before in
+    let e = f .before in
+    let d = e .before in
+    let n = d .before in
+    let z = n .before in
+    let o = z .before in
+    let g = o .before in
+    let t = g .before in
+    let k = t .before in
+    let m = k .before in
+    let v = m .before in
+    layout-tested _ _ _ _ _ _ _ _ _ _ _ _ _ _
+    (v .before .mode-in .ensures) (v .iv-size .ensures) (m .read32 .ensures .0) (k .read16 .ensures .0) (t .tag-place .ensures .0) (g .tag-size .ensures)
+    (o .read162 .ensures .0) (z .read8 .ensures .0) (n .read163 .ensures .0) (d .read164 .ensures .0) (e .read165 .ensures .0) (f .read322 .ensures .0) (c .read323 .ensures .0)
 
 pub layout-ok-spec : {M : Type 1} → statement M
 layout-ok-spec =

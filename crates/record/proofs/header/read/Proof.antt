@@ -5,7 +5,8 @@ use mathlib.Core.Bool.{true, false}
 use mathlib.Core.List.{List, [], _∷_}
 use Prim.Native.Nat.{ℕ}
 use borrow.Author.Tests.{not-true, not-false}
-use Rattle.record.specs.Record.{namesMode, modeIn, countIn, nameSize, layoutOk}
+use Rattle.modes.specs.Modes.{namesMode}
+use Rattle.record.specs.Record.{modeIn, countIn, nameSize, layoutOk}
 use Rattle.record.specs.Read.{passes}
 use Rattle.record.proofs.Reading.{read-two, read-three, read-four, read-zero}
 use borrow.Author.Needs.{needs}

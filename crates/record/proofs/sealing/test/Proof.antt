@@ -12,7 +12,7 @@ use Rattle.keytable.specs.Table.{tableOk, rowFor}
 use Rattle.keytable.specs.Calls.{useIn}
 use Rattle.keytable.proofs.Calls.{rows-accepted, broken-refused}
 use Rattle.modes.specs.Calls.{textMax}
-use Rattle.record.specs.Record.{namesMode, modeOf}
+use Rattle.modes.specs.Modes.{namesMode, modeOf}
 use Rattle.record.specs.Read.{passes}
 use Rattle.record.specs.Seal.{callersMax, rowFound}
 use Rattle.record.proofs.Numbers.{iv-small, tag-small, within-maxima, ready-one, ready-two, ready-four, ready-five, ready-six, ready-seven, ready-zero}
