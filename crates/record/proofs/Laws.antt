@@ -18,7 +18,7 @@ use Rattle.record.specs.Read.{headerSays, readNumber, readAnswer}
 use Rattle.record.specs.Seal.{sealAnswer}
 use Rattle.record.specs.Open.{plaintextBy, openNumber, openAnswer}
 use Rattle.record.specs.Demand3.{Refuses, OpensExactly, OnePlaintext, OneOpening, ElseRefuses, SealedOpens}
-use Rattle.record.specs.Laws.{HeaderThere, HeaderBack, SealsInRange, SealsOnlyInRange, SealOtherRows, OpenOtherRows, SealEarlier, NextEarlier, OpenEarlier, ReadUnique, CheckUnique, SealUnique, OpenUnique, ReadTestsRise, SealTestsRise, OpenTestsRise}
+use Rattle.record.specs.Laws.{HeaderThere, HeaderBack, SealsInRange, SealsOnlyInRange, SealOtherRows, OpenOtherRows, SealEarlier, NextEarlier, OpenEarlier, ReadUnique, CheckUnique, SealUnique, OpenUnique, ReadTestsRise, SealTestsRise, TagTestsRise, OpenTestsRise}
 use Rattle.record.specs.declared.header.Header.{Header}
 use Rattle.record.specs.declared.header.Header.the-variants.{Fields, BadForm, BadMode, TooLong}
 use Rattle.record.proofs.Written.{read-back, front-back}
@@ -157,6 +157,9 @@ read-tests-rise r = refl
 
 pub seal-tests-rise : SealTestsRise
 seal-tests-rise ok row name iv a n room = refl
+
+pub tag-tests-rise : TagTestsRise
+tag-tests-rise key r a = refl
 
 pub open-tests-rise : OpenTestsRise
 open-tests-rise ok row r a room = refl

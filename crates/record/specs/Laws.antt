@@ -21,7 +21,7 @@ use Rattle.session.specs.declared.Session.{Session}
 use Rattle.record.specs.Record.{modeIn, countIn, nameSize, layoutOk, frontIn, nameIn, ivIn, front}
 use Rattle.record.specs.Read.{readTests, headerSays, readNumber, readAnswer}
 use Rattle.record.specs.Seal.{callersMax, recordOf, sealedSize, sealTests, sealAnswer}
-use Rattle.record.specs.Open.{openTests, openAnswer}
+use Rattle.record.specs.Open.{tagTests, openTests, openAnswer}
 use Rattle.record.specs.Next.{sealedSays, sealNextTests, sealNextAnswer}
 
 -- ---- the header, there and back
@@ -199,6 +199,9 @@ ReadTestsRise = (r : List ℕ) → rises (readTests r) ≡ true
 
 abbrev pub SealTestsRise : Type 0
 SealTestsRise = (ok : Bool) (row : Option (List ℕ)) (name iv a : List ℕ) (n room : ℕ) → rises (sealTests ok row name iv a n room) ≡ true
+
+abbrev pub TagTestsRise : Type 0
+TagTestsRise = (key r a : List ℕ) → rises (tagTests key r a) ≡ true
 
 abbrev pub OpenTestsRise : Type 0
 OpenTestsRise = (ok : Bool) (row : Option (List ℕ)) (r a : List ℕ) (room : ℕ) → rises (openTests ok row r a room) ≡ true

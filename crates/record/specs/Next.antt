@@ -13,7 +13,7 @@ use Rattle.session.specs.declared.Session.{Session}
 use Rattle.record.specs.Seal.{recordBy, sealTests}
 use Rattle.record.specs.declared.next.Sealed.{Sealed}
 
--- "The lowest that applies is given": sealing's own tests, and then "10: IV session spent"
+-- "The lowest that applies is given": sealing's own tests, and then 10, "IV session spent"
 abbrev pub sealNextTests : Session → Bool → Option (List ℕ) → List ℕ → List ℕ → ℕ → ℕ → Tests
 sealNextTests s ok row name a n room = sealTests ok row name (ivOf s) a n room ++ ((10, isSpent s) ∷ [])
 

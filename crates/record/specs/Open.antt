@@ -30,6 +30,10 @@ abbrev pub plaintextIn : Option (List ℕ) → List ℕ → List ℕ
 plaintextIn none r = []
 plaintextIn (some row) r = plaintextBy (keyOf row) r
 
+-- the tag by itself
+abbrev pub tagTests : List ℕ → List ℕ → List ℕ → Tests
+tagTests key r a = (9, not (authenticBy key r a)) ∷ []
+
 abbrev pub openTests : Bool → Option (List ℕ) → List ℕ → List ℕ → ℕ → Tests
 openTests ok row r a room =
     (1, not ok)

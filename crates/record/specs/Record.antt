@@ -48,8 +48,8 @@ modeFor r = modeOf (modeIn r)
 abbrev pub endIn : List ℕ → ℕ
 endIn r = endAt (modeFor r) (nameSize r) (countIn r)
 
--- "0-1 format 0001h; 3 zero; 8-9 offset of the name, 24; 12-13 offset of the IV, 24+k; 14-15 IV length, 12; 16-19 offset of the ciphertext, 36+k;
--- 20-23 offset of the tag, 36+k+n", "and the end at 52+k+n"; k = 0 breaks the layout, and so does a count that the mode does not permit
+-- "0-1 format 0001h; .. 3 zero; .. 8-9 offset of the name, 24; .. 12-13 offset of the IV, 24+k; 14-15 IV length, 12; 16-19 offset of the ciphertext,
+-- 36+k; 20-23 offset of the tag, 36+k+n. .. and the end at 52+k+n"; a name has a byte at least, and n is a length that the mode permits
 abbrev pub layoutTests : List ℕ → List Bool
 layoutTests r =
     eqb (numberAt 2 r 0) recordFormat
