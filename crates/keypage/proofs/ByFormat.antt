@@ -3,12 +3,10 @@
 use mathlib.Core.Path.{_≡_, refl, sym, _∙_}
 use mathlib.Core.Bool.{Bool, true, false, false≢true}
 use mathlib.Core.List.{List}
-use Prim.Native.Nat.{ℕ, _≤_}
-use borrow.Author.Tests.{ne-eqb, eqb-true, ltb-false}
+use Prim.Native.Nat.{ℕ}
+use borrow.Author.Tests.{ne-eqb, eqb-true}
 use lib.Dec.{eqb}
-use lib.ListN.{length}
-use Rattle.keytable.specs.Row.{nameMax}
-use Rattle.keypage.specs.KeyPart.{byFormat, identifierSize, partRefused, partLong}
+use Rattle.keypage.specs.KeyPart.{byFormat, partRefused}
 
 module _ {A : Type 0} (f : ℕ) (plain reference wrapped other : A) where
   pub of-plain : f ≡ 0 → byFormat f plain reference wrapped other ≡ plain
@@ -31,12 +29,3 @@ third-format f s known a b = go (eqb f 4) refl
     go : (t : Bool) → eqb f 4 ≡ t → f ≡ 4
     go true e = eqb-true f 4 e
     go false e = absurd (false≢true (sym known ∙ rw (ne-eqb f 0 a, ne-eqb f 1 b, e)))
-
--- the names that are looked up keep to their maximum
-pub reference-short : (s : List ℕ) → partLong 1 s ≡ false → length s ≤ nameMax
-unfolding partLong
-reference-short s e = ltb-false nameMax (length s) e
-
-pub identifier-short : (s : List ℕ) → partLong 4 s ≡ false → identifierSize s ≤ nameMax
-unfolding partLong
-identifier-short s e = ltb-false nameMax (identifierSize s) e

@@ -9,9 +9,9 @@ use lib.ListN.{length}
 use Rattle.octets.specs.Bytes.{Bytes}
 use Rattle.octets.specs.Lent.{over, answer}
 use Rattle.octets.proofs.Bytes.{bytes-take, bytes-drop}
-use Rattle.octets.proofs.Lent.{one-answer}
+use Rattle.octets.proofs.Unique.{unique}
 use Rattle.keytable.specs.Row.{keySize, useOf, keyOf}
-use Rattle.keytable.specs.Table.{rowFor}
+use Rattle.keytable.specs.Table.{rowFor, dataRow}
 use Rattle.keytable.proofs.Laws.{rowFor-good}
 use Rattle.keywrap.specs.Calls.{wrappedSize, unwrapAnswer}
 use Rattle.keywrap.specs.Laws.{WrapsTo, UnwrapsTo}
@@ -19,8 +19,8 @@ use Rattle.keywrap.proofs.Laws.{unwraps-exactly, wrapped-length}
 use Rattle.keypage.specs.Page.{keyAt, algorithmIn, formatIn, keyLength, keyPart, fieldsOf}
 use Rattle.keypage.specs.KeyPart.{plainFormat, referenceFormat, wrappedFormat, kekUse, identifierAt, identifierSize, identifierOf, wrappedOf}
 use Rattle.keypage.specs.Read.{readAnswer}
-use Rattle.keypage.specs.Load.{keyIn, keyLoaded}
-use Rattle.keypage.specs.Laws.{Readable, ReadsExactly, Loads, LoadsPlain, LoadsReference, LoadsWrapped, NoRowSix, LoadOtherRows, ReadUnique, LoadUnique}
+use Rattle.keypage.specs.Load.{keyIn, keyLoaded, loadAnswer}
+use Rattle.keypage.specs.Laws.{Readable, ReadsExactly, Loads, LoadsPlain, LoadsReference, LoadsWrapped, NoRowSix, LoadOtherRows, ReadTestsRise, PartTestsRise, LoadTestsRise, ReadUnique, LoadUnique}
 use Rattle.keypage.proofs.Permitted.{read-passed, passed-read, passed-readable, readable-passed, read-done, read-zero, read-part}
 use Rattle.keypage.proofs.Laid.{known, known-needs, plain-size}
 use Rattle.keypage.proofs.Loaded.{partNumber, part-row, part-none, part-use, reference-passed, wrapped-size, wrapped-answer, load-six, load-told, load-written, load-key, key-loads}
@@ -53,13 +53,13 @@ unfolding keyLoaded
 loads-reference t p out fields k given is = (to, from)
   where
     Row : Type 0
-    Row = (row : List ℕ) × (rowFor t (keyPart p) ≡ some row) × (useOf row ≡ algorithmIn p) × (keyOf row ≡ k)
+    Row = (row : List ℕ) × (dataRow t (keyPart p) ≡ some row) × (useOf row ≡ algorithmIn p) × (keyOf row ≡ k)
 
     to : Loads t p out fields k → Row
     to h =
         let zero = load-told t p out fields given referenceFormat is k h in
-        let (row, has) = part-row (rowFor t (keyPart p)) (algorithmIn p) referenceFormat (keyPart p) refl zero in
-        let size : length (keyIn (rowFor t (keyPart p))) ≡ keySize = rw has (rowFor-good t (keyPart p) row (given .accepted) has .key-size) in (
+        let (row, has) = part-row (dataRow t (keyPart p)) (algorithmIn p) referenceFormat (keyPart p) refl zero in
+        let size : length (keyIn (dataRow t (keyPart p))) ≡ keySize = rw has (rowFor-good t (keyPart p) row (given .accepted) has .key-size) in (
           row,
           has,
           part-use row (algorithmIn p) referenceFormat (keyPart p) refl (rw has at zero),
@@ -127,10 +127,21 @@ no-row-six t p out fields given other nothing =
 pub load-other-rows : LoadOtherRows
 load-other-rows t u p out fields ok-t ok-u e = rw (ok-t, ok-u, e)
 
+-- ---- the lowest
+
+pub read-tests-rise : ReadTestsRise
+read-tests-rise p = refl
+
+pub part-tests-rise : PartTestsRise
+part-tests-rise row algorithm f s = refl
+
+pub load-tests-rise : LoadTestsRise
+load-tests-rise ok row p room = refl
+
 -- ---- one answer
 
 pub read-unique : ReadUnique
-read-unique p fields a b = one-answer
+read-unique p fields = unique (readAnswer p fields)
 
 pub load-unique : LoadUnique
-load-unique t p out fields a b = one-answer
+load-unique t p out fields = unique (loadAnswer t p out fields)

@@ -8,57 +8,54 @@ use Prim.Native.Nat.{ℕ, _≤_}
 use borrow.Author.Tests.{ne-eqb, le-ltb}
 use lib.Dec.{eqb, ltb}
 use lib.ListN.{length}
-use Rattle.octets.specs.Lent.{when, lowest, over, answer}
+use Rattle.octets.specs.Lent.{when, Tests, lowest, over, kept, answer}
 use Rattle.octets.proofs.Lent.{isNot-right}
 use Rattle.keytable.specs.Row.{keySize, useOf, keyOf}
 use Rattle.keywrap.specs.Calls.{unwrapNumber, unwrapAnswer}
 use Rattle.keypage.specs.Page.{algorithmIn, formatIn, keyPart, fieldsOf}
 use Rattle.keypage.specs.KeyPart.{kekUse, wrappedOf}
 use Rattle.keypage.specs.Read.{readTests, readNumber}
-use Rattle.keypage.specs.Load.{partTests, keyLoaded, loadTests, loadNumber, loadRow}
+use Rattle.keypage.specs.Load.{partTests, keyLoaded, partAnswer, loadTests, loadNumber, loadRow}
 use Rattle.keypage.proofs.ReadNumbers.{accepted}
 
 -- ---- the KEY part by the row that matched, the algorithm index and the format
 
-abbrev pub loaded : Option (List ℕ) → ℕ → ℕ → List ℕ → List ℕ → ℕ × List ℕ
-loaded row algorithm f s out = answer (lowest (partTests row algorithm f s)) (keyLoaded row f s) out
-
 module _ (row : Option (List ℕ)) (algorithm : ℕ) (s out : List ℕ) where
-  pub plain-zero : (f : ℕ) → f ≡ 0 → loaded row algorithm f s out ≡ (0, over s out)
+  pub plain-zero : (f : ℕ) → f ≡ 0 → partAnswer row algorithm f s out ≡ (0, over s out)
   unfolding keyLoaded
   plain-zero f e = rw e
 
-  pub reference-six : row ≡ none → loaded row algorithm 1 s out ≡ (6, out)
+  pub reference-six : row ≡ none → partAnswer row algorithm 1 s out ≡ (6, out)
   unfolding keyLoaded
   reference-six e = rw e
 
-  pub wrapped-six : row ≡ none → loaded row algorithm 4 s out ≡ (6, out)
+  pub wrapped-six : row ≡ none → partAnswer row algorithm 4 s out ≡ (6, out)
   unfolding keyLoaded
   wrapped-six e = rw e
 
   module _ (found : List ℕ) (has : row ≡ some found) where
-    pub reference-seven : eqb (useOf found) algorithm ≡ false → loaded row algorithm 1 s out ≡ (7, out)
+    pub reference-seven : eqb (useOf found) algorithm ≡ false → partAnswer row algorithm 1 s out ≡ (7, out)
     unfolding keyLoaded
     reference-seven e = rw (has, e)
 
-    pub reference-zero : eqb (useOf found) algorithm ≡ true → loaded row algorithm 1 s out ≡ (0, over (keyOf found) out)
+    pub reference-zero : eqb (useOf found) algorithm ≡ true → partAnswer row algorithm 1 s out ≡ (0, over (keyOf found) out)
     unfolding keyLoaded
     reference-zero e = rw (has, e)
 
-    pub wrapped-seven : eqb (useOf found) kekUse ≡ false → loaded row algorithm 4 s out ≡ (7, out)
+    pub wrapped-seven : eqb (useOf found) kekUse ≡ false → partAnswer row algorithm 4 s out ≡ (7, out)
     unfolding keyLoaded
     wrapped-seven e = rw (has, e)
 
     -- the unwrapping's own 2 and 5 cannot come
     pub wrapped-rest : eqb (useOf found) kekUse ≡ true → length (keyOf found) ≡ keySize → keySize ≤ length out
-        → loaded row algorithm 4 s out ≡ unwrapAnswer (keyOf found) (wrappedOf s) out
+        → partAnswer row algorithm 4 s out ≡ unwrapAnswer (keyOf found) (wrappedOf s) out
     unfolding keyLoaded unwrapAnswer unwrapNumber
     wrapped-rest e size room = rw (has, e, isNot-right 32 (keyOf found) size, le-ltb (length out) 32 room)
 
 -- ---- the load
 
 -- where a test of the first list applies, the second changes nothing
-lowest-first : (ns ms : List (ℕ × Bool)) → (lowest ns ≡ 0 → ⊥) → lowest (ns ++ ms) ≡ lowest ns
+lowest-first : (ns ms : Tests) → (lowest ns ≡ 0 → ⊥) → lowest (ns ++ ms) ≡ lowest ns
 lowest-first [] ms h = absurd (h refl)
 lowest-first (n ∷ ns) ms h = go (n .1) h (λ q. lowest-first ns ms q)
   where
@@ -96,15 +93,15 @@ module _ (ok : Bool) (row : Option (List ℕ)) (p out fields : List ℕ) where
         load-number = rw (good, accepted p readable .0, accepted p readable .1, accepted p readable .2, room)
 
         -- the KEY part decides
-        module _ (x : ℕ) (after : List ℕ) (e : loaded row (algorithmIn p) (formatIn p) (keyPart p) out ≡ (x, after)) where
-          by-the-part : loadRow ok row p out fields ≡ ((x, after), when (eqb x 0) (fieldsOf p) fields)
+        module _ (x : ℕ) (after : List ℕ) (e : partAnswer row (algorithmIn p) (formatIn p) (keyPart p) out ≡ (x, after)) where
+          by-the-part : loadRow ok row p out fields ≡ ((x, after), kept x (fieldsOf p) fields)
           unfolding loadRow
           by-the-part =
-              ap (λ (n : ℕ). (answer n (keyLoaded row (formatIn p) (keyPart p)) out, when (eqb n 0) (fieldsOf p) fields)) load-number
-              ∙ ap (λ (z : ℕ × List ℕ). (z, when (eqb (z .0) 0) (fieldsOf p) fields)) e
+              ap (λ (n : ℕ). (answer n (keyLoaded row (formatIn p) (keyPart p)) out, kept n (fieldsOf p) fields)) load-number
+              ∙ ap (λ (z : ℕ × List ℕ). (z, kept (z .0) (fieldsOf p) fields)) e
 
           pub load-refused : (x ≡ 0 → ⊥) → loadRow ok row p out fields ≡ ((x, after), fields)
           load-refused refused = by-the-part ∙ rw (ne-eqb x 0 refused)
 
-          pub load-zero : x ≡ 0 → (stored : List ℕ) → stored ≡ fieldsOf p → loadRow ok row p out fields ≡ ((0, after), stored)
+          pub load-zero : x ≡ 0 → (stored : List ℕ) → stored ≡ fieldsOf p → loadRow ok row p out fields ≡ ((x, after), stored)
           load-zero done stored is = by-the-part ∙ rw (done, is)

@@ -12,11 +12,11 @@ use lib.ListN.{length}
 use Rattle.octets.specs.Lent.{lowest, over, answer}
 use Rattle.octets.proofs.Lent.{isNot-false, isNot-right}
 use Rattle.keytable.specs.Row.{keySize, useOf, keyOf}
-use Rattle.keytable.specs.Table.{tableOk, rowFor}
+use Rattle.keytable.specs.Table.{tableOk}
 use Rattle.keywrap.specs.Calls.{wrappedSize, unwrapNumber, unwrapAnswer}
 use Rattle.keypage.specs.Page.{algorithmIn, formatIn, keyPart, fieldsOf}
-use Rattle.keypage.specs.KeyPart.{referenceFormat, wrappedFormat, kekUse, wrappedOf, needsRow, useFor, nameFor}
-use Rattle.keypage.specs.Load.{partTests, keyLoaded, loadNumber, loadRow, loadAnswer}
+use Rattle.keypage.specs.KeyPart.{referenceFormat, wrappedFormat, kekUse, wrappedOf, needsRow, useFor}
+use Rattle.keypage.specs.Load.{rowNamed, partTests, keyLoaded, loadNumber, loadRow, loadAnswer}
 use Rattle.keypage.specs.Laws.{Given, Loads}
 use Rattle.octets.proofs.Lent.{none-applies, over-injective}
 use Rattle.keypage.proofs.Permitted.{ReadPassed, read-passed}
@@ -60,7 +60,7 @@ module _ (row : List ℕ) (algorithm : ℕ) (s : List ℕ) where
 -- ---- the whole call, by a format, the row found for it and the key it then gives
 
 abbrev pub foundIn : List ℕ → List ℕ → ℕ → Option (List ℕ)
-foundIn t p f = rowFor t (nameFor f (keyPart p))
+foundIn t p f = rowNamed t f (keyPart p)
 
 abbrev pub numberIn : List ℕ → List ℕ → ℕ → ℕ
 numberIn t p f = partNumber (foundIn t p f) (algorithmIn p) f (keyPart p)

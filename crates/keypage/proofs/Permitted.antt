@@ -9,20 +9,20 @@ use lib.Dec.{ltb}
 use lib.ListN.{length}
 use Rattle.octets.specs.BigEndian.{numberAt}
 use Rattle.octets.proofs.Tests.{or-left, or-right, every-at}
-use Rattle.descriptors.specs.Tested.{Answer, listOk, countOf}
+use Rattle.descriptors.specs.Tested.{Answer}
 use Rattle.descriptors.proofs.Answers.{list-accepted, number-ok}
 use Rattle.descriptors.proofs.Laws.{accepts-exactly}
-use Rattle.keypage.specs.Page.{pageCode, pageMax, keyAt, scopeIn, reservedIn, encryptionIn, decryptionIn, algorithmIn, formatIn, keyLength, keyPart, listIn, pageTests, pageOk, permittedTests, fieldsOk, fieldsOf}
+use Rattle.keypage.specs.Page.{pageCode, pageMax, keyAt, scopeIn, reservedIn, encryptionIn, decryptionIn, algorithmIn, formatIn, keyLength, keyPart, listIn, pageStrict, pageListOk, pageListCount, pageTests, pageOk, permittedTests, fieldsOk, fieldsOf}
 use Rattle.keypage.specs.KeyPart.{partBroken, partRefused, partLong}
-use Rattle.keypage.specs.Read.{broken, refused, long, readTests, readNumber, readAnswer}
+use Rattle.keypage.specs.Read.{broken, refused, long, readNumber, readAnswer}
 use Rattle.keypage.specs.Laws.{Laid, Readable}
-use Rattle.octets.proofs.Lent.{none-applies}
+use Rattle.keypage.proofs.ReadNumbers.{accepted}
 use Rattle.keypage.proofs.Laid.{PartPassed, part-laid, laid-part}
 
 -- ---- the page's own layout and fields
 
 module _ (p : List ℕ) where
-  pub page-laid : pageOk p ≡ true → fieldsOk p ≡ true → length p ≤ pageMax → Laid p (countOf false (listIn p))
+  pub page-laid : pageOk p ≡ true → fieldsOk p ≡ true → length p ≤ pageMax → Laid p (pageListCount (listIn p))
   unfolding pageOk fieldsOk
   page-laid ok fields short =
       record {
@@ -32,8 +32,8 @@ module _ (p : List ℕ) where
         reserved-bytes = every-at (pageTests p) 3 ok;
         key-within = leb-true (keyAt + keyLength p) (length p) (every-at (pageTests p) 4 ok);
         list =
-            accepts-exactly false false (listIn p) (countOf false (listIn p)) .0
-            (list-accepted false false (listIn p) (countOf false (listIn p)) (every-at (pageTests p) 5 ok) refl);
+            accepts-exactly false pageStrict (listIn p) (pageListCount (listIn p)) .0
+            (list-accepted false pageStrict (listIn p) (pageListCount (listIn p)) (every-at (pageTests p) 5 ok) refl);
         scope = leb-true (scopeIn p) 2 (every-at (permittedTests p) 0 fields);
         encryption = leb-true (encryptionIn p) 2 (every-at (permittedTests p) 1 fields);
         decryption = leb-true (decryptionIn p) 3 (every-at (permittedTests p) 2 fields);
@@ -43,8 +43,8 @@ module _ (p : List ℕ) where
       }
 
   module _ (n : ℕ) (h : Laid p n) where
-    pub laid-list : listOk false false (listIn p) ≡ true
-    laid-list = number-ok false false (listIn p) (ap (λ (a : Answer). a .0) (accepts-exactly false false (listIn p) n .1 (h .list)))
+    pub laid-list : pageListOk (listIn p) ≡ true
+    laid-list = number-ok false pageStrict (listIn p) (ap (λ (a : Answer). a .0) (accepts-exactly false pageStrict (listIn p) n .1 (h .list)))
 
     pub laid-page : pageOk p ≡ true
     unfolding pageOk
@@ -79,9 +79,7 @@ pub record ReadPassed (p : List ℕ) : Type 0 where
 
 module _ (p : List ℕ) where
   pub read-passed : readNumber p ≡ 0 → ReadPassed p
-  unfolding readNumber
-  read-passed e =
-      record { whole = none-applies (readTests p) 0 refl e; permitted = none-applies (readTests p) 1 refl e; short = none-applies (readTests p) 2 refl e }
+  read-passed e = let (whole, permitted, short) = accepted p e in record { whole = whole; permitted = permitted; short = short }
 
   pub passed-read : ReadPassed p → readNumber p ≡ 0
   unfolding readNumber
@@ -102,7 +100,7 @@ module _ (p : List ℕ) where
   pub passed-readable : ReadPassed p → Readable p
   passed-readable h =
       record {
-        count = countOf false (listIn p);
+        count = pageListCount (listIn p);
         laid =
             page-laid p (not-false (pageOk p) (or-left (not (pageOk p)) (partBroken (formatIn p) (keyPart p)) (h .whole)))
             (not-false (fieldsOk p) (or-left (not (fieldsOk p)) (partRefused (formatIn p) (keyPart p)) (h .permitted)))

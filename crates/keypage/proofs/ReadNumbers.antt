@@ -4,22 +4,21 @@ use mathlib.Core.Path.{_≡_, refl, _∙_}
 use mathlib.Core.Bool.{Bool, true, false, not}
 use mathlib.Core.List.{List, [], _∷_}
 use Prim.Native.Nat.{ℕ, _+_, _/_, _%_}
-use native.Mathlib.Omega.{arith}
 use borrow.Author.Tests.{ne-eqb, not-false}
 use lib.Dec.{eqb, leb}
 use lib.ListN.{length, getD}
 use Rattle.octets.specs.BigEndian.{numberAt}
-use Rattle.octets.specs.Lent.{when, lowest}
+use Rattle.octets.specs.Lent.{when}
 use Rattle.octets.specs.Tests.{every, zeros, partOf}
+use Rattle.octets.proofs.Lent.{none-applies}
 use Rattle.octets.proofs.Tests.{or-left, every-at}
-use Rattle.descriptors.specs.Tested.{listOk, countOf}
-use Rattle.keypage.specs.Page.{pageCode, keyAt, formatIn, keyLength, keyPart, listIn, pageTests, pageOk, fieldsOf}
+use Rattle.keypage.specs.Page.{pageCode, keyAt, formatIn, keyLength, keyPart, listIn, pageListOk, pageListCount, pageTests, pageOk, fieldsOf}
 use Rattle.keypage.specs.KeyPart.{partBroken}
-use Rattle.keypage.specs.Read.{broken, refused, long, readNumber, readAnswer}
+use Rattle.keypage.specs.Read.{broken, refused, long, readTests, readNumber, readAnswer}
 
 -- the tests of a page's own layout, by what the code has read of it
 pub page-tested : (p : List ℕ) (code size first key : ℕ) (reserved listed : Bool) → code ≡ numberAt 2 p 0 → size ≡ numberAt 2 p 2 → first ≡ getD p 4 0
-    → reserved ≡ zeros (partOf p 10 8) → key ≡ keyLength p → listed ≡ listOk false false (listIn p)
+    → reserved ≡ zeros (partOf p 10 8) → key ≡ keyLength p → listed ≡ pageListOk (listIn p)
     → every (eqb code pageCode ∷ eqb (length p) (size + 4) ∷ eqb (first / 2 % 16) 0 ∷ reserved ∷ leb (keyAt + key) (length p) ∷ listed ∷ []) ≡ pageOk p
 unfolding pageOk
 page-tested p code size first key reserved listed e1 e2 e3 e4 e5 e6 = rw (e1, e2, e3, e4, e5, e6)
@@ -45,23 +44,17 @@ module _ (p : List ℕ) where
 
 -- ---- the number 0: no test applies
 
-none-applies : (x y z : Bool) → lowest ((2, x) ∷ (3, y) ∷ (4, z) ∷ []) ≡ 0 → (x ≡ false) × (y ≡ false) × (z ≡ false)
-none-applies true y z e = absurd (omega arith)
-none-applies false true z e = absurd (omega arith)
-none-applies false false true e = absurd (omega arith)
-none-applies false false false e = (refl, refl, refl)
-
 pub accepted : (p : List ℕ) → readNumber p ≡ 0 → (broken p ≡ false) × (refused p ≡ false) × (long p ≡ false)
 unfolding readNumber
-accepted p e = none-applies (broken p) (refused p) (long p) e
+accepted p e = (none-applies (readTests p) 0 refl e, none-applies (readTests p) 1 refl e, none-applies (readTests p) 2 refl e)
 
-pub list-good : (p : List ℕ) → readNumber p ≡ 0 → listOk false false (listIn p) ≡ true
+pub list-good : (p : List ℕ) → readNumber p ≡ 0 → pageListOk (listIn p) ≡ true
 unfolding pageOk
 list-good p e =
     every-at (pageTests p) 5 (not-false (pageOk p) (or-left (not (pageOk p)) (partBroken (formatIn p) (keyPart p)) (accepted p e .0)))
 
 -- the count that comes of testing such a page's list
-pub counted : (p l : List ℕ) (n : ℕ) → listOk false false (listIn p) ≡ true → l ≡ listIn p → n ≡ when (listOk false false l) (countOf false l) 0 → n ≡ countOf false (listIn p)
+pub counted : (p l : List ℕ) (n : ℕ) → pageListOk (listIn p) ≡ true → l ≡ listIn p → n ≡ when (pageListOk l) (pageListCount l) 0 → n ≡ pageListCount (listIn p)
 counted p l n ok is e = e ∙ rw (is, ok)
 
 -- ---- the answer, by the number that the code has

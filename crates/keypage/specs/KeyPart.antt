@@ -10,7 +10,7 @@ use Rattle.octets.specs.Lent.{when, isNot}
 use Rattle.octets.specs.Tests.{every, partOf}
 use Rattle.keytable.specs.Row.{nameMax, keySize}
 
--- "00h: the key, 32 bytes"; "01h: a reference, 9 bytes or more"; "04h: 0-1 KEK type, 2-3 identifier length, identifier, wrapped key"
+-- "00h: the key, 32 bytes"; "01h: a reference, 9 bytes or more"; "04h: 0-1 KEK type .., 2-3 identifier length, identifier, wrapped key"
 abbrev pub plainFormat : ℕ
 plainFormat = 0x00
 
@@ -47,7 +47,7 @@ wrappedOf s = drop (identifierAt + identifierSize s) s
 abbrev pub wrappedTests : List ℕ → List Bool
 wrappedTests s = leb identifierAt (length s) ∷ leb 1 (identifierSize s) ∷ leb (identifierAt + identifierSize s) (length s) ∷ []
 
--- 2: "KEY part of a known format; identifier length 0"
+-- 2: "KEY part of a known format .. identifier length 0"
 unfoldable pub partBroken : ℕ → List ℕ → Bool
 partBroken f s = byFormat f (isNot keySize s) (ltb (length s) referenceMin) (not (every (wrappedTests s))) false
 
@@ -59,11 +59,7 @@ partRefused f s = byFormat f false false (not (eqb (kekType s) 1 || eqb (kekType
 unfoldable pub partLong : ℕ → List ℕ → Bool
 partLong f s = byFormat f false (ltb nameMax (length s)) (ltb nameMax (identifierSize s)) false
 
--- the name that is looked up: the reference, matched whole, or the KEK's identifier; a 00h page names no row
-abbrev pub nameFor : ℕ → List ℕ → List ℕ
-nameFor f s = byFormat f [] s (identifierOf s) []
-
--- "01h: the row's use equals ALGORITHM INDEX"; "04h: The row's use is 03h"
+-- "01h: .. the row's use equals ALGORITHM INDEX"; "04h: .. The row's use is 03h"
 abbrev pub needsRow : ℕ → Bool
 needsRow f = byFormat f false true true false
 

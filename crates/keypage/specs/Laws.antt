@@ -2,24 +2,25 @@
 -- Assumes nothing.
 use mathlib.Core.Path.{_≡_}
 use mathlib.Core.Logic.{_↔_}
-use mathlib.Core.Bool.{true, false}
-use mathlib.Core.List.{List, [], _∷_, _++_}
-use mathlib.Core.Option.{some, none}
+use mathlib.Core.Bool.{Bool, true, false}
+use mathlib.Core.List.{List}
+use mathlib.Core.Option.{Option, some, none}
 use Prim.Native.Nat.{ℕ, _+_, _≤_}
-use lib.ListN.{length, take, drop}
+use lib.ListN.{length}
 use Rattle.octets.specs.Bytes.{Bytes}
 use Rattle.octets.specs.Lent.{over}
+use Rattle.octets.specs.Lowest.{rises}
+use Rattle.octets.specs.Unique.{Unique}
 use Rattle.octets.specs.Tests.{zeros, partOf}
 use Rattle.octets.specs.BigEndian.{numberAt}
 use Rattle.keytable.specs.Row.{keySize, nameMax, useOf, keyOf}
-use Rattle.keytable.specs.Table.{tableOk, rowFor}
-use Rattle.keywrap.specs.Calls.{wrappedSize}
+use Rattle.keytable.specs.Table.{tableOk, rowFor, dataRow}
 use Rattle.keywrap.specs.Laws.{WrapsTo}
 use Rattle.descriptors.specs.Laws.{Accepted}
-use Rattle.keypage.specs.Page.{pageCode, pageMax, keyAt, scopeIn, reservedIn, encryptionIn, decryptionIn, algorithmIn, formatIn, keyLength, keyPart, listIn, fieldsOf}
-use Rattle.keypage.specs.KeyPart.{plainFormat, referenceFormat, wrappedFormat, referenceMin, kekType, kekUse, identifierSize, identifierOf, wrappedOf, identifierAt, nameFor}
-use Rattle.keypage.specs.Read.{readNumber, readAnswer}
-use Rattle.keypage.specs.Load.{loadAnswer}
+use Rattle.keypage.specs.Page.{pageCode, pageMax, keyAt, scopeIn, reservedIn, encryptionIn, decryptionIn, algorithmIn, formatIn, keyLength, keyPart, listIn, pageStrict, fieldsOf}
+use Rattle.keypage.specs.KeyPart.{plainFormat, referenceFormat, wrappedFormat, referenceMin, kekType, kekUse, identifierSize, identifierOf, wrappedOf, identifierAt}
+use Rattle.keypage.specs.Read.{readTests, readNumber, readAnswer}
+use Rattle.keypage.specs.Load.{rowNamed, partTests, loadTests, loadAnswer}
 
 -- ---- reading accepts exactly the pages of the layout with permitted values
 
@@ -30,7 +31,7 @@ pub record Laid (p : List ℕ) (n : ℕ) : Type 0 where
   pub reserved-bits : reservedIn p ≡ 0
   pub reserved-bytes : zeros (partOf p 10 8) ≡ true
   pub key-within : keyAt + keyLength p ≤ length p
-  pub list : Accepted false false (listIn p) n
+  pub list : Accepted false pageStrict (listIn p) n
   pub scope : scopeIn p ≤ 2
   pub encryption : encryptionIn p ≤ 2
   pub decryption : decryptionIn p ≤ 3
@@ -73,7 +74,7 @@ LoadsPlain = (t p out fields : List ℕ) → Given t p out → formatIn p ≡ pl
 abbrev pub LoadsReference : Type 0
 LoadsReference =
     (t p out fields k : List ℕ) → Given t p out → formatIn p ≡ referenceFormat
-    → Loads t p out fields k ↔ ((row : List ℕ) × (rowFor t (keyPart p) ≡ some row) × (useOf row ≡ algorithmIn p) × (keyOf row ≡ k))
+    → Loads t p out fields k ↔ ((row : List ℕ) × (dataRow t (keyPart p) ≡ some row) × (useOf row ≡ algorithmIn p) × (keyOf row ≡ k))
 
 -- a 04h page gives k exactly when there is a KEK's row of that whole identifier and wrapping k by it gives the 40 bytes
 abbrev pub LoadsWrapped : Type 0
@@ -85,7 +86,7 @@ LoadsWrapped =
 -- "Where no row answers, the load stops there with 6."
 abbrev pub NoRowSix : Type 0
 NoRowSix =
-    (t p out fields : List ℕ) → Given t p out → (formatIn p ≡ plainFormat → ⊥) → rowFor t (nameFor (formatIn p) (keyPart p)) ≡ none
+    (t p out fields : List ℕ) → Given t p out → (formatIn p ≡ plainFormat → ⊥) → rowNamed t (formatIn p) (keyPart p) ≡ none
     → loadAnswer t p out fields ≡ ((6, out), fields)
 
 -- ---- other rows change nothing
@@ -93,14 +94,24 @@ NoRowSix =
 abbrev pub LoadOtherRows : Type 0
 LoadOtherRows =
     (t u p out fields : List ℕ) → tableOk t ≡ true → tableOk u ≡ true
-    → rowFor t (nameFor (formatIn p) (keyPart p)) ≡ rowFor u (nameFor (formatIn p) (keyPart p))
+    → rowNamed t (formatIn p) (keyPart p) ≡ rowNamed u (formatIn p) (keyPart p)
     → loadAnswer t p out fields ≡ loadAnswer u p out fields
+
+-- ---- "The lowest that applies is given, and no other."
+
+abbrev pub ReadTestsRise : Type 0
+ReadTestsRise = (p : List ℕ) → rises (readTests p) ≡ true
+
+abbrev pub PartTestsRise : Type 0
+PartTestsRise = (row : Option (List ℕ)) (algorithm f : ℕ) (s : List ℕ) → rises (partTests row algorithm f s) ≡ true
+
+abbrev pub LoadTestsRise : Type 0
+LoadTestsRise = (ok : Bool) (row : Option (List ℕ)) (p : List ℕ) (room : ℕ) → rises (loadTests ok row p room) ≡ true
 
 -- ---- for each input one answer, and one state of what is lent
 
 abbrev pub ReadUnique : Type 0
-ReadUnique = (p fields : List ℕ) (a b : ℕ × List ℕ) → readAnswer p fields ≡ a → readAnswer p fields ≡ b → a ≡ b
+ReadUnique = (p fields : List ℕ) → Unique (readAnswer p fields)
 
 abbrev pub LoadUnique : Type 0
-LoadUnique =
-    (t p out fields : List ℕ) (a b : (ℕ × List ℕ) × List ℕ) → loadAnswer t p out fields ≡ a → loadAnswer t p out fields ≡ b → a ≡ b
+LoadUnique = (t p out fields : List ℕ) → Unique (loadAnswer t p out fields)

@@ -6,15 +6,19 @@ use mathlib.Core.List.{List, [], _∷_}
 use mathlib.Core.Option.{Option, some, none}
 use lib.ListN.{length}
 use lib.Dec.{eqb, ltb}
-use Rattle.octets.specs.Lent.{when, isNot, lowest, answer}
+use Rattle.octets.specs.Lent.{isNot, Tests, lowest, kept, answer}
 use Rattle.keytable.specs.Row.{keySize, keyOf}
-use Rattle.keytable.specs.Table.{tableOk, rowFor}
+use Rattle.keytable.specs.Table.{tableOk, rowFor, dataRow}
 use Rattle.keytable.specs.Calls.{missing, useIn}
 use Rattle.keywrap.specs.Wrap as wrap
 use Rattle.keywrap.specs.Calls.{wrappedSize}
 use Rattle.keypage.specs.Page.{algorithmIn, formatIn, keyPart, fieldsOf}
-use Rattle.keypage.specs.KeyPart.{byFormat, wrappedOf, needsRow, useFor, nameFor}
+use Rattle.keypage.specs.KeyPart.{byFormat, identifierOf, wrappedOf, needsRow, useFor}
 use Rattle.keypage.specs.Read.{broken, refused, long}
+
+-- the row that a KEY part names: by a reference, as a record's name is looked for, or by the KEK's identifier; a 00h page names none
+abbrev pub rowNamed : List ℕ → ℕ → List ℕ → Option (List ℕ)
+rowNamed t f s = byFormat f none (dataRow t s) (rowFor t (identifierOf s)) none
 
 -- the key of the row that matched
 abbrev pub keyIn : Option (List ℕ) → List ℕ
@@ -22,7 +26,7 @@ keyIn none = []
 keyIn (some row) = keyOf row
 
 -- 6 to 9, by the row that matched, the page's algorithm index, and the format and bytes of its KEY part
-abbrev pub partTests : Option (List ℕ) → ℕ → ℕ → List ℕ → List (ℕ × Bool)
+abbrev pub partTests : Option (List ℕ) → ℕ → ℕ → List ℕ → Tests
 partTests row algorithm f s =
     (6, needsRow f && missing row)
     ∷ (7, needsRow f && not (eqb (useIn row) (useFor f algorithm)))
@@ -34,7 +38,11 @@ partTests row algorithm f s =
 unfoldable pub keyLoaded : Option (List ℕ) → ℕ → List ℕ → List ℕ
 keyLoaded row f s = byFormat f s (keyIn row) (wrap.keyOf (keyIn row) (wrappedOf s)) []
 
-abbrev pub loadTests : Bool → Option (List ℕ) → List ℕ → ℕ → List (ℕ × Bool)
+-- what the KEY part decides, with room for the key
+abbrev pub partAnswer : Option (List ℕ) → ℕ → ℕ → List ℕ → List ℕ → ℕ × List ℕ
+partAnswer row algorithm f s out = answer (lowest (partTests row algorithm f s)) (keyLoaded row f s) out
+
+abbrev pub loadTests : Bool → Option (List ℕ) → List ℕ → ℕ → Tests
 loadTests ok row p room =
     (1, not ok)
     ∷ (2, broken p)
@@ -50,8 +58,8 @@ loadNumber ok row p room = lowest (loadTests ok row p room)
 unfoldable pub loadRow : Bool → Option (List ℕ) → List ℕ → List ℕ → List ℕ → (ℕ × List ℕ) × List ℕ
 loadRow ok row p out fields = (
   answer (loadNumber ok row p (length out)) (keyLoaded row (formatIn p) (keyPart p)) out,
-  when (eqb (loadNumber ok row p (length out)) 0) (fieldsOf p) fields,
+  kept (loadNumber ok row p (length out)) (fieldsOf p) fields,
 )
 
 abbrev pub loadAnswer : List ℕ → List ℕ → List ℕ → List ℕ → (ℕ × List ℕ) × List ℕ
-loadAnswer t p out fields = loadRow (tableOk t) (rowFor t (nameFor (formatIn p) (keyPart p))) p out fields
+loadAnswer t p out fields = loadRow (tableOk t) (rowNamed t (formatIn p) (keyPart p)) p out fields

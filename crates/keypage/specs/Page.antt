@@ -49,7 +49,7 @@ ckorpIn p = getD p 5 0 / 2 % 2
 abbrev pub ckorlIn : List ℕ → ℕ
 ckorlIn p = getD p 5 0 % 2
 
--- "6 ENCRYPTION MODE; 7 DECRYPTION MODE; 8 ALGORITHM INDEX; 9 KEY FORMAT; 18-19 KEY LENGTH"
+-- "6 ENCRYPTION MODE; 7 DECRYPTION MODE; 8 ALGORITHM INDEX ..; 9 KEY FORMAT; .. 18-19 KEY LENGTH"
 abbrev pub encryptionIn : List ℕ → ℕ
 encryptionIn p = getD p 6 0
 
@@ -72,7 +72,17 @@ keyPart p = partOf p keyAt (keyLength p)
 abbrev pub listIn : List ℕ → List ℕ
 listIn p = drop (keyAt + keyLength p) p
 
--- "2-3 PAGE LENGTH, the total less 4"; bits 4-1 of byte 4 and bytes 10-17 zero; KEY within the page; the list tested as a page's, and not strictly
+-- the list is tested as a page's (not as a label's), and not strictly; and the count of its unreserved descriptors
+abbrev pub pageStrict : Bool
+pageStrict = false
+
+abbrev pub pageListOk : List ℕ → Bool
+pageListOk list = listOk false pageStrict list
+
+abbrev pub pageListCount : List ℕ → ℕ
+pageListCount list = countOf false list
+
+-- "2-3 PAGE LENGTH, the total less 4"; bits 4-1 of byte 4 and bytes 10-17 zero; KEY within the page; the list
 abbrev pub pageTests : List ℕ → List Bool
 pageTests p =
     eqb (numberAt 2 p 0) pageCode
@@ -80,7 +90,7 @@ pageTests p =
     ∷ eqb (reservedIn p) 0
     ∷ zeros (partOf p 10 8)
     ∷ leb (keyAt + keyLength p) (length p)
-    ∷ listOk false false (listIn p)
+    ∷ pageListOk (listIn p)
     ∷ []
 
 unfoldable pub pageOk : List ℕ → Bool
@@ -115,5 +125,5 @@ fieldsOf p =
     ∷ algorithmIn p
     ∷ formatIn p
     ∷ keyLength p
-    ∷ countOf false (listIn p)
+    ∷ pageListCount (listIn p)
     ∷ []

@@ -4,8 +4,8 @@ use Prim.Native.Nat.{ℕ}
 use mathlib.Core.Bool.{Bool, not, _||_}
 use mathlib.Core.List.{List, [], _∷_}
 use lib.ListN.{length}
-use lib.Dec.{eqb, ltb}
-use Rattle.octets.specs.Lent.{when, lowest}
+use lib.Dec.{ltb}
+use Rattle.octets.specs.Lent.{Tests, lowest, kept}
 use Rattle.keypage.specs.Page.{pageMax, formatIn, keyPart, pageOk, fieldsOk, fieldsOf}
 use Rattle.keypage.specs.KeyPart.{partBroken, partRefused, partLong}
 
@@ -18,7 +18,7 @@ refused p = not (fieldsOk p) || partRefused (formatIn p) (keyPart p)
 abbrev pub long : List ℕ → Bool
 long p = ltb pageMax (length p) || partLong (formatIn p) (keyPart p)
 
-abbrev pub readTests : List ℕ → List (ℕ × Bool)
+abbrev pub readTests : List ℕ → Tests
 readTests p = (2, broken p) ∷ (3, refused p) ∷ (4, long p) ∷ []
 
 unfoldable pub readNumber : List ℕ → ℕ
@@ -26,4 +26,4 @@ readNumber p = lowest (readTests p)
 
 -- the fields are lent, and changed by 0 alone
 unfoldable pub readAnswer : List ℕ → List ℕ → ℕ × List ℕ
-readAnswer p fields = (readNumber p, when (eqb (readNumber p) 0) (fieldsOf p) fields)
+readAnswer p fields = (readNumber p, kept (readNumber p) (fieldsOf p) fields)

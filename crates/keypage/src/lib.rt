@@ -2,4 +2,6 @@
 pub mod loading;
 mod parts;
 pub mod reading;
+mod reference;
 mod sizes;
+mod wrapped;

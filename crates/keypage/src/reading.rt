@@ -5,34 +5,32 @@ use crate::parts::part_refused;
 use crate::sizes::KEY_AT;
 use crate::sizes::PAGE_CODE;
 use crate::sizes::PAGE_MAX;
+use crate::sizes::PAGE_STRICT;
 use descriptors::list::Tested;
 use octets::big_endian::read8;
 use octets::big_endian::read16;
 use octets::strings::all_zero;
 use octets::strings::part;
 ghost use mathlib.Core.Path.{_≡_};
-ghost use mathlib.Core.Bool.{true, false};
-ghost use Prim.Native.Nat.{_+_, _≤_};
-ghost use lib.ListN.{length};
+ghost use mathlib.Core.Bool.{true};
 ghost use Rattle.octets.specs.Lent.{when};
-ghost use Rattle.descriptors.specs.Tested.{listOk, countOf};
-ghost use Rattle.keypage.specs.Page.{keyPart, listIn, pageOk, fieldsOk, fieldsOf};
+ghost use Rattle.keypage.specs.Page.{keyPart, listIn, pageListOk, pageListCount, pageOk, fieldsOk, fieldsOf};
 ghost use Rattle.keypage.specs.Read.{readNumber, readAnswer};
 
 // Whether a page's list keeps to the layout, and how many of its descriptors are not reserved.
 fn list_ok(list: &[u8]) -> bool
-    ensures { λ r. ⌜ r ≡ listOk false false (now (list .entry)) ⌝ }
+    ensures { λ r. ⌜ r ≡ pageListOk (now (list .entry)) ⌝ }
 {
-    let Tested::Counted(_) = descriptors::list::test(list, false, false) else {
+    let Tested::Counted(_) = descriptors::list::test(list, false, PAGE_STRICT) else {
         return false;
     };
     true
 }
 
 fn list_count(list: &[u8]) -> usize
-    ensures { λ r. ⌜ r ≡ when (listOk false false (now (list .entry))) (countOf false (now (list .entry))) 0 ⌝ }
+    ensures { λ r. ⌜ r ≡ when (pageListOk (now (list .entry))) (pageListCount (now (list .entry))) 0 ⌝ }
 {
-    let Tested::Counted(n) = descriptors::list::test(list, false, false) else {
+    let Tested::Counted(n) = descriptors::list::test(list, false, PAGE_STRICT) else {
         return 0;
     };
     n
@@ -100,7 +98,7 @@ pub fn check(p: &[u8]) -> u8
 
 // The fields of a page whose list keeps to the layout.
 pub(crate) fn fields_of(p: &[u8]) -> [u64; 14]
-    requires { ⌜ listOk false false (listIn (now p)) ≡ true ⌝ }
+    requires { ⌜ pageListOk (listIn (now p)) ≡ true ⌝ }
     ensures { λ r. ⌜ r ≡ fieldsOf (now (p .entry)) ⌝ }
 {
     let first = read8(p, 4);

@@ -3,6 +3,9 @@ pub(crate) const PAGE_CODE: usize = 0x0010;
 
 pub(crate) const KEY_AT: usize = 20;
 
+// Whether a page's list is tested strictly.
+pub(crate) const PAGE_STRICT: bool = false;
+
 pub(crate) const PAGE_MAX: usize = 4096;
 
 pub(crate) const KEY_SIZE: usize = 32;

@@ -12,7 +12,7 @@ use lib.Seq.{drop-drop}
 use Rattle.octets.specs.Tests.{all, partOf}
 use Rattle.keytable.specs.Row.{rowSize, nameMax, nameLength, rowOk, rowTests}
 use Rattle.keytable.specs.Table.{headSize, rowPlace, headOk, headTests, tableOk, tableTests, rows, rowsOf, rowCount, distinct}
-use Rattle.octets.proofs.Tests.{all-stop, all-turn, all-end, all-at, every-at}
+use Rattle.octets.proofs.Tests.{all-stop, all-turn, all-end, every-at}
 
 -- ---- the header
 
@@ -70,11 +70,6 @@ rowsOf-at t i h = rows-at (rowCount t) i (drop headSize t) h ∙ rw drop-drop
 pub name-short : (row : List ℕ) → rowOk row ≡ true → nameLength row ≤ nameMax
 unfolding rowOk
 name-short row e = leb-true (nameLength row) nameMax (every-at (rowTests row) 1 e)
-
-pub name-short-at : (t : List ℕ) (i : ℕ) → all rowOk (rowsOf t) ≡ true → i < rowCount t
-    → nameLength (partOf t (rowPlace i) rowSize) ≤ nameMax
-name-short-at t i e h =
-    name-short (partOf t (rowPlace i) rowSize) (rw (rowsOf-at t i h) at (all-at rowOk (rowsOf t) i [] e (rowsOf-more t i h)))
 
 -- ---- all rows: what is left at row i decides
 

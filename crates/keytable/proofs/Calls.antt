@@ -1,25 +1,21 @@
--- The answers of the calls: where a test fails and where none does, and what an enum's case tells of its input.
+-- The answers of the calls: where a test fails and where none does, and what a case of the check tells of the table.
 -- Assumes nothing.
 use mathlib.Core.Path.{_≡_, refl, sym, ap, _∙_}
 use mathlib.Core.Bool.{Bool, true, false, not}
 use mathlib.Core.List.{List, [], _∷_}
 use mathlib.Core.Option.{Option, some, none}
-use Prim.Native.Nat.{ℕ, _+_, _≤_, _<_}
+use Prim.Native.Nat.{ℕ}
 use native.Mathlib.Omega.{arith}
-use borrow.Author.Tests.{lt-leb}
 use lib.Dec.{eqb, ltb}
 use lib.ListN.{length, getD}
 use Rattle.octets.specs.Lent.{lowest}
-use Rattle.keytable.specs.declared.Found.{Found}
-use Rattle.keytable.specs.declared.Found.the-variants.{At, Nothing}
 use Rattle.keytable.specs.declared.Table.{Table}
 use Rattle.keytable.specs.declared.Table.the-variants.{Rows, Broken}
 use Rattle.octets.specs.Tests.{all}
-use Rattle.keytable.specs.Row.{rowOk, nameMax, rowSize, useOf}
-use Rattle.keytable.specs.Table.{headOk, tableOk, tableTests, rowCount, rowsOf, distinct, rowFor, absent, placeFrom, placeOf, rowAt}
-use Rattle.keytable.specs.Calls.{Answer, tableNumber, tableSays, tableAnswer, foundSays, placeSays, foundAnswer, useNumber, useAnswer}
+use Rattle.keytable.specs.Row.{rowOk, nameMax, useOf}
+use Rattle.keytable.specs.Table.{headOk, tableOk, tableTests, rowCount, rowsOf, distinct}
+use Rattle.keytable.specs.Calls.{Answer, tableNumber, tableSays, tableAnswer, useNumber, useAnswer}
 use Rattle.octets.proofs.Tests.{every-not}
-use Rattle.keytable.proofs.Lookup.{some-present, none-absent, placeOf-row, placeOf-none}
 
 -- ---- the check
 
@@ -59,63 +55,6 @@ tableIn a = case-of (a .1)
 pub tableIn-says : (a : Table) → tableIn (tableSays a) ≡ a
 tableIn-says (Rows r) = refl
 tableIn-says Broken = refl
-
--- ---- the lookup
-
--- no place where the header breaks its layout, nor for a name that passes its maximum
-pub place-refused : (t name : List ℕ) → headOk t ≡ false → placeOf t name ≡ none
-unfolding placeOf
-place-refused t name e = rw e
-
-pub place-long : (t name : List ℕ) → headOk t ≡ true → nameMax < length name → placeOf t name ≡ none
-unfolding placeOf
-place-long t name e long = rw (e, lt-leb (length name) nameMax long)
-
--- the place that an answer has in it
-abbrev pub placeIn : Answer → Option ℕ
-placeIn a = at (a .1)
-  where
-    at : List ℕ → Option ℕ
-    at [] = none
-    at (p ∷ ps) = some p
-
-pub placeIn-place : (o : Option ℕ) → placeIn (placeSays o) ≡ o
-placeIn-place none = refl
-placeIn-place (some p) = refl
-
-abbrev pub foundIn : Answer → Found
-foundIn a = case-of (placeIn a)
-  where
-    case-of : Option ℕ → Found
-    case-of none = Nothing
-    case-of (some p) = At p
-
-pub foundIn-says : (f : Found) → foundIn (foundSays f) ≡ f
-foundIn-says (At p) = refl
-foundIn-says Nothing = refl
-
--- what each case of the lookup's answer tells of the place
-pub at-some : (f : Found) (o : Option ℕ) (p : ℕ) → foundSays f ≡ placeSays o → f ≡ At p → o ≡ some p
-at-some f o p e is = sym (placeIn-place o) ∙ ap placeIn (sym e ∙ ap foundSays is)
-
-pub nothing-none : (f : Found) (o : Option ℕ) → foundSays f ≡ placeSays o → f ≡ Nothing → o ≡ none
-nothing-none f o e is = sym (placeIn-place o) ∙ ap placeIn (sym e ∙ ap foundSays is)
-
--- of whether a row has the name
-module _ (at : ℕ) (name : List ℕ) (xs : List (List ℕ)) (f : Found) (e : foundSays f ≡ placeSays (placeFrom at name xs)) where
-  pub at-present : (p : ℕ) → f ≡ At p → absent name xs ≡ false
-  at-present p is = some-present at p name xs (at-some f (placeFrom at name xs) p e is)
-
-  pub nothing-absent : f ≡ Nothing → absent name xs ≡ true
-  nothing-absent is = none-absent at name xs (nothing-none f (placeFrom at name xs) e is)
-
--- and, where the header keeps to the layout and the name to its maximum, of the row
-module _ (t name : List ℕ) (f : Found) (head : headOk t ≡ true) (short : length name ≤ nameMax) (e : foundSays f ≡ foundAnswer t name) where
-  pub found-row : (p : ℕ) → f ≡ At p → (rowFor t name ≡ some (rowAt t p)) × (p + rowSize ≤ length t)
-  found-row p is = placeOf-row t name head short p (at-some f (placeOf t name) p e is)
-
-  pub found-none : f ≡ Nothing → rowFor t name ≡ none
-  found-none is = placeOf-none t name head short (nothing-none f (placeOf t name) e is)
 
 -- ---- the lookup as a call of its own: each number in turn
 

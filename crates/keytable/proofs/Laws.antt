@@ -1,23 +1,27 @@
 -- The laws of specs/Laws.antt.
 -- Assumes nothing.
 use mathlib.Core.Path.{_≡_, refl, sym, ap, _∙_}
-use mathlib.Core.Bool.{true}
+use mathlib.Core.Bool.{true, false≢true}
 use mathlib.Core.List.{List, []}
 use mathlib.Core.Option.{Option, some, none}
 use Prim.Native.Nat.{ℕ, _+_, _≤_, _<_}
 use native.Mathlib.Omega.{arith}
 use borrow.Author.Tests.{ne-eqb}
 use lib.ListN.{length}
-use Rattle.octets.proofs.Lent.{one-answer}
+use Rattle.octets.proofs.Unique.{unique, unique-by}
 use Rattle.octets.specs.Tests.{all}
-use Rattle.keytable.specs.Row.{rowSize, nameMax, keyAt, keySize, nameLength, nameOf, named, rowOk}
-use Rattle.keytable.specs.Table.{rowPlace, headOk, tableOk, rows, rowsOf, rowCount, distinct, holders, rowFor, placeOf, rowAt}
-use Rattle.keytable.specs.Calls.{tableNumber, tableAnswer, placeSays}
-use Rattle.keytable.specs.Laws.{NamedWhole, OtherLength, OneRow, AtMostOne, FoundRow, FindsExactly, ElseNothing, RowForGood, OtherRows, HoldersRow, EmptyTable, CheckUnique, FindUnique, FindUseUnique, RowAtUnique, UseAtUnique, KeyAtUnique}
-use Rattle.octets.proofs.Tests.{all-at, length-part}
+use Rattle.keytable.specs.Row.{rowSize, nameMax, nameAt, keyAt, keySize, nameLength, nameOf, useOf, keyIn, named, rowOk}
+use Rattle.keytable.specs.Table.{rowPlace, headOk, tableOk, rows, rowsOf, rowCount, distinct, holders, rowFor, rowAt, rowIn}
+use Rattle.keytable.specs.Calls.{tableNumber, tableSays, tableAnswer, findUse}
+use Rattle.keytable.specs.Find.{foundSays, placeOf, foundAnswer, rowFound}
+use Rattle.keytable.specs.declared.Found.{Found}
+use Rattle.keytable.specs.declared.Found.the-variants.{At, Nothing, Broken}
+use Rattle.keytable.specs.Laws.{NamedWhole, OtherLength, OneRow, AtMostOne, FindsRow, FoundRow, FindsExactly, ElseNothing, FindsBroken, RowForGood, OtherRows, HoldersRow, EmptyTable, CheckTestsRise, UseTestsRise, CheckUnique, FindUnique, FindUseUnique, RowAtUnique, UseAtUnique, KeyAtUnique}
+use Rattle.octets.proofs.Tests.{all-at, length-part, part-short}
 use Rattle.keytable.proofs.Accepted.{head-total, accepted-head, accepted-rows, accepted-distinct, length-rowsOf, rowsOf-at, name-short}
-use Rattle.keytable.proofs.Lookup.{named-whole, named-own, distinct-one, distinct-holders, asList, asList-injective, lookup-one, placeOf-row, placeOf-none}
-use Rattle.keytable.proofs.Calls.{placeIn, placeIn-place, tableIn, tableIn-says, foundIn, foundIn-says}
+use Rattle.keytable.proofs.Lookup.{named-whole, named-own, distinct-one, distinct-holders, asList, asList-injective, lookup-one, placeOf-row, placeOf-else, placeOf-broken, broken-head}
+use Rattle.keytable.proofs.Places.{foundIn, foundIn-says, says-same}
+use Rattle.keytable.proofs.Calls.{tableIn, tableIn-says}
 
 -- ---- names
 
@@ -47,42 +51,6 @@ at-most-one t name ok = rw (the-row t name ok) (go (rowFor t name))
 
 -- ---- the lookup
 
-module _ (t name : List ℕ) (ok : tableOk t ≡ true) (short : length name ≤ nameMax) where
-  found : (p : ℕ) → placeOf t name ≡ some p → (rowFor t name ≡ some (rowAt t p)) × (p + rowSize ≤ length t)
-  found p e = placeOf-row t name (accepted-head t ok) short p e
-
-  absent-row : placeOf t name ≡ none → rowFor t name ≡ none
-  absent-row e = placeOf-none t name (accepted-head t ok) short e
-
-pub finds-exactly : FindsExactly
-finds-exactly t name row ok short = (to, λ e. from (placeOf t name) refl e)
-  where
-    to : FoundRow t name row → rowFor t name ≡ some row
-    to h =
-        let given : placeOf t name ≡ some (h .place) = sym (placeIn-place (placeOf t name)) ∙ ap placeIn (h .answers) in
-        found t name ok short (h .place) given .0 ∙ ap some (h .is)
-
-    from : (o : Option ℕ) → placeOf t name ≡ o → rowFor t name ≡ some row → FoundRow t name row
-    from (some p) given e =
-        let (there, inside) = found t name ok short p given in
-        let is-row : rowAt t p ≡ row = cc in
-        record { place = p; answers = ap placeSays given; is = is-row; within = inside }
-    from none given e =
-        let nowhere = absent-row t name ok short given in
-        let z : _≡_ {A = ℕ} 0 1 = cc in absurd (omega arith)
-
-pub else-nothing : ElseNothing
-else-nothing t name ok short = (to, from (placeOf t name) refl)
-  where
-    to : placeSays (placeOf t name) ≡ (6, []) → rowFor t name ≡ none
-    to e = absent-row t name ok short (sym (placeIn-place (placeOf t name)) ∙ ap placeIn e)
-
-    from : (o : Option ℕ) → placeOf t name ≡ o → rowFor t name ≡ none → placeSays (placeOf t name) ≡ (6, [])
-    from none given e = ap placeSays given
-    from (some p) given e =
-        let (there, inside) = found t name ok short p given in
-        let z : _≡_ {A = ℕ} 0 1 = cc in absurd (omega arith)
-
 pub rowFor-good : RowForGood
 rowFor-good t name row ok e =
     let one = lookup-one name row (rowsOf t) e in
@@ -97,6 +65,63 @@ rowFor-good t name row ok e =
       key-size = length-part row keyAt keySize (omega arith);
     }
 
+module _ (t name : List ℕ) (ok : tableOk t ≡ true) where
+  -- no row of an accepted table has a name past its maximum
+  long-none : nameMax < length name → rowFor t name ≡ none
+  long-none long = go (rowFor t name) refl
+    where
+      go : (o : Option (List ℕ)) → rowFor t name ≡ o → o ≡ none
+      go none e = refl
+      go (some row) e =
+          let good = rowFor-good t name row ok e in
+          absurd (omega (arith, long, name-short row (good .ok), ap length (good .name-is), part-short row nameAt (nameLength row)))
+
+  found : (p : ℕ) → placeOf t name ≡ At p → (rowFor t name ≡ some (rowAt t p)) × (p + rowSize ≤ length t)
+  found = placeOf-row t name (accepted-head t ok)
+
+  absent-row : placeOf t name ≡ Nothing → rowFor t name ≡ none
+  absent-row e = placeOf-else t name (accepted-head t ok) e long-none
+
+  whole : placeOf t name ≡ Broken → ⊥
+  whole e = false≢true (sym (broken-head t name e) ∙ accepted-head t ok)
+
+pub finds-row : FindsRow
+finds-row t name f ok e = go f (sym (says-same f (placeOf t name) e))
+  where
+    go : (g : Found) → placeOf t name ≡ g → rowFor t name ≡ rowFound t g
+    go (At p) is = found t name ok p is .0
+    go Nothing is = absent-row t name ok is
+    go Broken is = absurd (whole t name ok is)
+
+pub finds-exactly : FindsExactly
+finds-exactly t name row ok = (to, λ e. from (placeOf t name) refl e)
+  where
+    to : FoundRow t name row → rowFor t name ≡ some row
+    to h = finds-row t name (At (h .place)) ok (sym (h .answers)) ∙ ap some (h .is)
+
+    from : (f : Found) → placeOf t name ≡ f → rowFor t name ≡ some row → FoundRow t name row
+    from (At p) given e =
+        let (there, inside) = found t name ok p given in
+        let is-row : rowAt t p ≡ row = cc in
+        record { place = p; answers = ap foundSays given; is = is-row; within = inside }
+    from Nothing given e =
+        let nowhere = absent-row t name ok given in
+        let z : _≡_ {A = ℕ} 0 1 = cc in absurd (omega arith)
+    from Broken given e = absurd (whole t name ok given)
+
+pub else-nothing : ElseNothing
+else-nothing t name ok = (λ e. finds-row t name Nothing ok (sym e), from (placeOf t name) refl)
+  where
+    from : (f : Found) → placeOf t name ≡ f → rowFor t name ≡ none → foundAnswer t name ≡ (6, [])
+    from (At p) given e =
+        let (there, inside) = found t name ok p given in
+        let z : _≡_ {A = ℕ} 0 1 = cc in absurd (omega arith)
+    from Nothing given e = ap foundSays given
+    from Broken given e = absurd (whole t name ok given)
+
+pub finds-broken : FindsBroken
+finds-broken t name = (λ e. broken-head t name (says-same (placeOf t name) Broken e), λ e. ap foundSays (placeOf-broken t name e))
+
 -- ---- other rows
 
 pub other-rows : OtherRows
@@ -104,6 +129,14 @@ other-rows t u name before ok-t ok-u e = rw (ok-t, ok-u, e)
 
 pub holders-row : HoldersRow
 holders-row t u name ok-t ok-u e = asList-injective _ _ (sym (the-row t name ok-t) ∙ e ∙ the-row u name ok-u)
+
+-- ---- the lowest
+
+pub check-tests-rise : CheckTestsRise
+check-tests-rise t = refl
+
+pub use-tests-rise : UseTestsRise
+use-tests-rise ok row name = refl
 
 -- ---- the empty table
 
@@ -114,19 +147,19 @@ empty-table = refl
 -- ---- one answer
 
 pub check-unique : CheckUnique
-check-unique t a b p q = sym (tableIn-says a) ∙ ap tableIn (p ∙ sym q) ∙ tableIn-says b
+check-unique t = unique-by tableSays tableIn tableIn-says (tableAnswer t)
 
 pub find-unique : FindUnique
-find-unique t name a b p q = sym (foundIn-says a) ∙ ap foundIn (p ∙ sym q) ∙ foundIn-says b
+find-unique t name = unique-by foundSays foundIn foundIn-says (foundAnswer t name)
 
 pub row-at-unique : RowAtUnique
-row-at-unique t at a b p q = one-answer (sym p) (sym q)
+row-at-unique t at = unique (rowIn t at)
 
 pub use-at-unique : UseAtUnique
-use-at-unique t at a b p q = one-answer (sym p) (sym q)
+use-at-unique t at = unique (useOf (rowAt t at))
 
 pub key-at-unique : KeyAtUnique
-key-at-unique t at a b p q = one-answer (sym p) (sym q)
+key-at-unique t at = unique (keyIn (rowIn t at))
 
 pub find-use-unique : FindUseUnique
-find-use-unique t name before a b p q = one-answer p q
+find-use-unique t name before = unique (findUse t name before)

@@ -8,17 +8,19 @@ use Prim.Native.Nat.{ℕ, zero, suc, _+_, _*_, _≤_, _<_}
 use native.Mathlib.Nat.{le-of-suc-le-suc, not-suc-le-zero}
 use native.Mathlib.Numerals.{add-one}
 use native.Mathlib.Omega.{arith}
-use borrow.Author.Tests.{eqb-true, eq-eqb, le-leb, lt-leb, leb-true, not-true}
+use borrow.Author.Tests.{eqb-true, eq-eqb, leb-true, leb-false, le-leb, lt-leb, not-true}
 use lib.Dec.{eqb, leb}
-use lib.ListN.{length, getD, take, drop, drop-of-length-le}
-use lib.Seq.{drop-cons, drop-drop, take-nil, drop-nil}
+use lib.ListN.{length, getD, drop, drop-of-length-le}
+use lib.Seq.{drop-cons, drop-drop}
 use Rattle.octets.specs.Same.{same}
 use Rattle.octets.specs.Lent.{when}
 use Rattle.octets.proofs.Tests.{and-left, and-right}
 use Rattle.octets.proofs.Same.{same-equal, same-refl}
 use Rattle.octets.specs.Tests.{all, partOf}
-use Rattle.keytable.specs.Row.{rowSize, nameMax, nameAt, keyAt, keySize, nameLength, nameOf, useOf, keyOf, named}
-use Rattle.keytable.specs.Table.{headSize, rowPlace, headOk, rows, rowsOf, rowCount, absent, distinct, holders, lookup, placeFrom, placeOf, rowAt}
+use Rattle.keytable.specs.Row.{rowSize, nameMax, nameAt, nameLength, nameOf, named}
+use Rattle.keytable.specs.Table.{headSize, rowPlace, headOk, rows, rowsOf, rowCount, absent, distinct, holders, lookup, rowSizeAt, rowAt}
+use Rattle.keytable.specs.Find.{placeFrom, placeOf}
+use Rattle.keytable.specs.declared.Found.the-variants.{At, Nothing, Broken}
 use Rattle.octets.proofs.Tests.{all-at, length-part}
 use Rattle.keytable.proofs.Accepted.{head-total, rowsOf-more, rowsOf-done, rowsOf-at}
 
@@ -40,7 +42,7 @@ named-own row h =
 
 -- along the rows: what is left at row i decides
 module _ (t name : List ℕ) (i : ℕ) where
-  pub place-here : i < rowCount t → named name (partOf t (rowPlace i) rowSize) ≡ true → placeFrom (rowPlace i) name (drop i (rowsOf t)) ≡ some (rowPlace i)
+  pub place-here : i < rowCount t → named name (partOf t (rowPlace i) rowSize) ≡ true → placeFrom (rowPlace i) name (drop i (rowsOf t)) ≡ At (rowPlace i)
   unfolding placeFrom
   place-here h e = rw (drop-cons (rowsOf t) i [] (rowsOf-more t i h), rowsOf-at t i h, e)
 
@@ -51,28 +53,28 @@ module _ (t name : List ℕ) (i : ℕ) where
       let next : rowPlace i + rowSize ≡ rowPlace (i + 1) = omega arith in
       rw (drop-cons (rowsOf t) i [] (rowsOf-more t i h), rowsOf-at t i h, e, next, add-one)
 
-  pub place-end : rowCount t ≤ i → placeFrom (rowPlace i) name (drop i (rowsOf t)) ≡ none
+  pub place-end : rowCount t ≤ i → placeFrom (rowPlace i) name (drop i (rowsOf t)) ≡ Nothing
   unfolding placeFrom
   place-end h = rw (drop-of-length-le (rowsOf t) (rowsOf-done t i h))
 
 -- there is no place exactly where no row has the name
-pub none-absent : (at : ℕ) (name : List ℕ) (xs : List (List ℕ)) → placeFrom at name xs ≡ none → absent name xs ≡ true
+pub nothing-absent : (at : ℕ) (name : List ℕ) (xs : List (List ℕ)) → placeFrom at name xs ≡ Nothing → absent name xs ≡ true
 unfolding all placeFrom
-none-absent at name [] e = refl
-none-absent at name (x ∷ xs) e = go (named name x) (none-absent (at + rowSize) name xs) e
+nothing-absent at name [] e = refl
+nothing-absent at name (x ∷ xs) e = go (named name x) (nothing-absent (at + rowSize) name xs) e
   where
-    go : (t : Bool) → (placeFrom (at + rowSize) name xs ≡ none → absent name xs ≡ true)
-        → when t (some at) (placeFrom (at + rowSize) name xs) ≡ none → (not t && absent name xs) ≡ true
+    go : (t : Bool) → (placeFrom (at + rowSize) name xs ≡ Nothing → absent name xs ≡ true)
+        → when t (At at) (placeFrom (at + rowSize) name xs) ≡ Nothing → (not t && absent name xs) ≡ true
     go true ih h = cc
     go false ih h = ih h
 
-pub some-present : (at p : ℕ) (name : List ℕ) (xs : List (List ℕ)) → placeFrom at name xs ≡ some p → absent name xs ≡ false
+pub else-present : (at : ℕ) (name : List ℕ) (xs : List (List ℕ)) → (placeFrom at name xs ≡ Nothing → ⊥) → absent name xs ≡ false
 unfolding all placeFrom
-some-present at p name [] e = cc
-some-present at p name (x ∷ xs) e = go (named name x) (some-present (at + rowSize) p name xs) e
+else-present at name [] e = absurd (e refl)
+else-present at name (x ∷ xs) e = go (named name x) (else-present (at + rowSize) name xs) e
   where
-    go : (t : Bool) → (placeFrom (at + rowSize) name xs ≡ some p → absent name xs ≡ false)
-        → when t (some at) (placeFrom (at + rowSize) name xs) ≡ some p → (not t && absent name xs) ≡ false
+    go : (t : Bool) → ((placeFrom (at + rowSize) name xs ≡ Nothing → ⊥) → absent name xs ≡ false)
+        → (when t (At at) (placeFrom (at + rowSize) name xs) ≡ Nothing → ⊥) → (not t && absent name xs) ≡ false
     go true ih h = refl
     go false ih h = ih h
 
@@ -134,7 +136,7 @@ lookup-one name row (x ∷ xs) f = go (named name x) refl (lookup-one name row x
         record { number = suc (later .number); below = omega (arith, later .below); is = later .is; has = later .has }
 
 -- the row at the place found is the row of the name, and lies within the rows
-place-row : (n at p : ℕ) (s name : List ℕ) → placeFrom at name (rows n (drop at s)) ≡ some p
+place-row : (n at p : ℕ) (s name : List ℕ) → placeFrom at name (rows n (drop at s)) ≡ At p
     → (lookup name (rows n (drop at s)) ≡ some (partOf s p rowSize)) × (p + rowSize ≤ at + rowSize * n)
 unfolding rows placeFrom lookup
 place-row zero at p s name e = let z : _≡_ {A = ℕ} 0 1 = cc in absurd (omega arith)
@@ -142,65 +144,96 @@ place-row (suc n) at p s name e =
     rw (drop-drop rowSize at s) (go (named name (partOf s at rowSize)) (place-row n (at + rowSize) p s name) (rw (drop-drop rowSize at s) at e))
   where
     go : (t : Bool)
-        → (placeFrom (at + rowSize) name (rows n (drop (at + rowSize) s)) ≡ some p
+        → (placeFrom (at + rowSize) name (rows n (drop (at + rowSize) s)) ≡ At p
         → (lookup name (rows n (drop (at + rowSize) s)) ≡ some (partOf s p rowSize)) × (p + rowSize ≤ at + rowSize + rowSize * n))
-        → when t (some at) (placeFrom (at + rowSize) name (rows n (drop (at + rowSize) s))) ≡ some p
+        → when t (At at) (placeFrom (at + rowSize) name (rows n (drop (at + rowSize) s))) ≡ At p
         → (when t (some (partOf s at rowSize)) (lookup name (rows n (drop (at + rowSize) s))) ≡ some (partOf s p rowSize)) × (p + rowSize ≤ at + rowSize * suc n)
     go true ih h = let here : at ≡ p = cc in (ap (λ (k : ℕ). some (partOf s k rowSize)) here, omega arith)
     go false ih h = let (is, within) = ih h in (is, omega arith)
 
-place-none : (at : ℕ) (name : List ℕ) (xs : List (List ℕ)) → placeFrom at name xs ≡ none → lookup name xs ≡ none
+place-none : (at : ℕ) (name : List ℕ) (xs : List (List ℕ)) → placeFrom at name xs ≡ Nothing → lookup name xs ≡ none
 unfolding placeFrom lookup
 place-none at name [] e = refl
 place-none at name (x ∷ xs) e = go (named name x) (place-none (at + rowSize) name xs) e
   where
-    go : (t : Bool) → (placeFrom (at + rowSize) name xs ≡ none → lookup name xs ≡ none)
-        → when t (some at) (placeFrom (at + rowSize) name xs) ≡ none → when t (some x) (lookup name xs) ≡ none
+    go : (t : Bool) → (placeFrom (at + rowSize) name xs ≡ Nothing → lookup name xs ≡ none)
+        → when t (At at) (placeFrom (at + rowSize) name xs) ≡ Nothing → when t (some x) (lookup name xs) ≡ none
     go true ih h = let z : _≡_ {A = ℕ} 0 1 = cc in absurd (omega arith)
     go false ih h = ih h
 
 -- ---- rowAt
 
-pub rowAt-within : (t : List ℕ) (p : ℕ) → p + rowSize ≤ length t → rowAt t p ≡ partOf t p rowSize
-unfolding rowAt
-rowAt-within t p h = rw (le-leb (p + rowSize) (length t) h)
+pub size-within : (t : List ℕ) (p : ℕ) → p + rowSize ≤ length t → rowSizeAt t p ≡ rowSize
+unfolding rowSizeAt
+size-within t p h = rw (le-leb (p + rowSize) (length t) h)
 
-pub rowAt-past : (t : List ℕ) (p : ℕ) → length t < p + rowSize → rowAt t p ≡ []
-unfolding rowAt
-rowAt-past t p h = rw (lt-leb (p + rowSize) (length t) h)
+pub size-past : (t : List ℕ) (p : ℕ) → length t < p + rowSize → rowSizeAt t p ≡ 0
+unfolding rowSizeAt
+size-past t p h = rw (lt-leb (p + rowSize) (length t) h)
 
--- so it has a row's length, or is empty
-pub rowAt-short : (t : List ℕ) (p : ℕ) → length (rowAt t p) < rowSize → rowAt t p ≡ []
-unfolding rowAt
-rowAt-short t p h = go (leb (p + rowSize) (length t)) refl h
+rowAt-within : (t : List ℕ) (p : ℕ) → p + rowSize ≤ length t → rowAt t p ≡ partOf t p rowSize
+rowAt-within t p h = ap (partOf t p) (size-within t p h)
+
+-- no row of a list is broken
+place-whole : (at : ℕ) (name : List ℕ) (xs : List (List ℕ)) → placeFrom at name xs ≡ Broken → ⊥
+unfolding placeFrom
+place-whole at name [] e = let z : _≡_ {A = ℕ} 0 1 = cc in absurd (omega arith)
+place-whole at name (x ∷ xs) e = go (named name x) (place-whole (at + rowSize) name xs) e
   where
-    go : (in-table : Bool) → leb (p + rowSize) (length t) ≡ in-table → length (when in-table (partOf t p rowSize) []) < rowSize → when in-table (partOf t p rowSize) [] ≡ []
-    go true e less = absurd (omega (arith, length-part t p rowSize (leb-true (p + rowSize) (length t) e)))
-    go false e less = refl
+    go : (t : Bool) → (placeFrom (at + rowSize) name xs ≡ Broken → ⊥) → when t (At at) (placeFrom (at + rowSize) name xs) ≡ Broken → ⊥
+    go true ih h = let z : _≡_ {A = ℕ} 0 1 = cc in absurd (omega arith)
+    go false ih h = ih h
 
--- its use and its key where it is empty
-pub use-past : (row : List ℕ) → row ≡ [] → useOf row ≡ 0
-use-past row e = ap useOf e
+-- ---- placeOf
 
-pub key-past : (row : List ℕ) → row ≡ [] → keyOf row ≡ row
-key-past row e = rw e (ap (take keySize) (drop-nil keyAt) ∙ take-nil keySize)
+pub placeOf-broken : (t name : List ℕ) → headOk t ≡ false → placeOf t name ≡ Broken
+unfolding placeOf
+placeOf-broken t name e = rw e
 
--- ---- placeOf: a header that keeps to the layout, and a name within its maximum
+pub placeOf-long : (t name : List ℕ) → headOk t ≡ true → nameMax < length name → placeOf t name ≡ Nothing
+unfolding placeOf
+placeOf-long t name e long = rw (e, lt-leb (length name) nameMax long)
 
+pub broken-head : (t name : List ℕ) → placeOf t name ≡ Broken → headOk t ≡ false
+unfolding placeOf
+broken-head t name e = go (headOk t) (leb (length name) nameMax) e
+  where
+    go : (head short : Bool) → when head (when short (placeFrom headSize name (rowsOf t)) Nothing) Broken ≡ Broken → head ≡ false
+    go true true h = absurd (place-whole headSize name (rowsOf t) h)
+    go true false h = let z : _≡_ {A = ℕ} 0 1 = cc in absurd (omega arith)
+    go false short h = refl
+
+-- a header that keeps to the layout, and a name within its maximum
 module _ (t name : List ℕ) (head : headOk t ≡ true) (short : length name ≤ nameMax) where
   pub placeOf-looked : placeOf t name ≡ placeFrom headSize name (rowsOf t)
   unfolding placeOf
   placeOf-looked = rw (head, le-leb (length name) nameMax short)
 
-  pub placeOf-row : (p : ℕ) → placeOf t name ≡ some p → (lookup name (rowsOf t) ≡ some (rowAt t p)) × (p + rowSize ≤ length t)
-  unfolding rowsOf
-  placeOf-row p e =
-      let (is, within) = place-row (rowCount t) headSize p t name (sym placeOf-looked ∙ e) in
-      let inside : p + rowSize ≤ length t = omega (arith, head-total t head) in
-      (is ∙ ap some (sym (rowAt-within t p inside)), inside)
+  placeOf-nothing : placeOf t name ≡ Nothing → lookup name (rowsOf t) ≡ none
+  placeOf-nothing e = place-none headSize name (rowsOf t) (sym placeOf-looked ∙ e)
 
-  pub placeOf-none : placeOf t name ≡ none → lookup name (rowsOf t) ≡ none
-  placeOf-none e = place-none headSize name (rowsOf t) (sym placeOf-looked ∙ e)
+module _ (t name : List ℕ) (head : headOk t ≡ true) where
+  -- a place is given to a name within its maximum alone
+  pub placeOf-row : (p : ℕ) → placeOf t name ≡ At p → (lookup name (rowsOf t) ≡ some (rowAt t p)) × (p + rowSize ≤ length t)
+  unfolding rowsOf
+  placeOf-row p e = go (leb (length name) nameMax) refl
+    where
+      go : (b : Bool) → leb (length name) nameMax ≡ b → (lookup name (rowsOf t) ≡ some (rowAt t p)) × (p + rowSize ≤ length t)
+      go true fits =
+          let short = leb-true (length name) nameMax fits in
+          let (is, within) = place-row (rowCount t) headSize p t name (sym (placeOf-looked t name head short) ∙ e) in
+          let inside : p + rowSize ≤ length t = omega (arith, head-total t head) in
+          (is ∙ ap some (sym (rowAt-within t p inside)), inside)
+      go false past =
+          let none-there = placeOf-long t name head (leb-false (length name) nameMax past) in
+          let z : _≡_ {A = ℕ} 0 1 = cc in absurd (omega arith)
+
+  pub placeOf-else : placeOf t name ≡ Nothing → (nameMax < length name → lookup name (rowsOf t) ≡ none) → lookup name (rowsOf t) ≡ none
+  placeOf-else e when-long = go (leb (length name) nameMax) refl
+    where
+      go : (b : Bool) → leb (length name) nameMax ≡ b → lookup name (rowsOf t) ≡ none
+      go true fits = placeOf-nothing t name head (leb-true (length name) nameMax fits) e
+      go false past = when-long (leb-false (length name) nameMax past)
 
 -- ---- holders
 

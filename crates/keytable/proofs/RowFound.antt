@@ -1,30 +1,36 @@
 -- What the table's check and lookup tell a caller: the row of a name, or none; and that its key is bytes where the table is.
 -- Assumes nothing.
-use mathlib.Core.Path.{_≡_}
-use mathlib.Core.Bool.{Bool, true, false}
+use mathlib.Core.Path.{_≡_, refl, ap, _∙_}
+use mathlib.Core.Bool.{Bool, true, false, false≢true}
+use mathlib.Core.Logic.{⊎-elim}
 use mathlib.Core.List.{List}
 use mathlib.Core.Option.{some, none}
-use Prim.Native.Nat.{ℕ, zero, suc, _≤_}
+use Prim.Native.Nat.{ℕ, zero, suc}
 use native.Mathlib.Omega.{arith}
 use lib.ListN.{length, take, drop}
 use Rattle.octets.specs.Bytes.{Bytes}
 use Rattle.octets.specs.Lent.{when}
 use Rattle.octets.proofs.Bytes.{bytes-take, bytes-drop}
-use Rattle.keytable.specs.Row.{nameMax, rowSize, keyAt, keySize, keyOf, named}
+use Rattle.keytable.specs.Row.{rowSize, keyAt, keySize, keyOf, named}
 use Rattle.keytable.specs.Table.{headSize, rowCount, rows, rowsOf, lookup, tableOk, rowFor, rowAt}
-use Rattle.keytable.specs.Calls.{foundSays, foundAnswer}
+use Rattle.keytable.specs.Find.{foundSays, foundAnswer, rowFound}
 use Rattle.keytable.specs.declared.Found.{Found}
-use Rattle.keytable.specs.declared.Found.the-variants.{At, Nothing}
-use Rattle.keytable.proofs.Accepted.{accepted-head}
-use Rattle.keytable.proofs.Calls.{found-row, found-none}
-use Rattle.keytable.proofs.Laws.{rowFor-good}
+use Rattle.keytable.specs.declared.Found.the-variants.{At, Nothing, Broken}
+use Rattle.keytable.proofs.Places.{NotAt}
+use Rattle.keytable.proofs.Laws.{rowFor-good, finds-row}
 
-module _ (t name : List ℕ) (f : Found) (ok : tableOk t ≡ true) (short : length name ≤ nameMax) (e : foundSays f ≡ foundAnswer t name) where
-  pub no-row : f ≡ Nothing → rowFor t name ≡ none
-  no-row = found-none t name f (accepted-head t ok) short e
+-- any case of a lookup but At says that no row was found
+pub not-found : (t : List ℕ) (f : Found) → NotAt f → rowFound t f ≡ none
+not-found t (At p) w = ⊎-elim (λ z. absurd (omega arith)) (λ z. absurd (omega arith)) w
+not-found t Nothing w = refl
+not-found t Broken w = refl
+
+module _ (t name : List ℕ) (f : Found) (ok : tableOk t ≡ true) (e : foundSays f ≡ foundAnswer t name) where
+  pub no-row : NotAt f → rowFor t name ≡ none
+  no-row other = finds-row t name f ok e ∙ not-found t f other
 
   pub the-row : (p : ℕ) → f ≡ At p → rowFor t name ≡ some (rowAt t p)
-  the-row p is = found-row t name f (accepted-head t ok) short e p is .0
+  the-row p is = finds-row t name f ok e ∙ ap (rowFound t) is
 
   pub row-key : (p : ℕ) → f ≡ At p → length (keyOf (rowAt t p)) ≡ keySize
   row-key p is = rowFor-good t name (rowAt t p) ok (the-row p is) .key-size

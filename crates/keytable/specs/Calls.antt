@@ -6,11 +6,9 @@ use mathlib.Core.List.{List, [], _∷_}
 use mathlib.Core.Option.{Option, some, none}
 use lib.ListN.{length}
 use lib.Dec.{eqb, ltb}
-use Rattle.octets.specs.Lent.{when, lowest}
+use Rattle.octets.specs.Lent.{when, Tests, lowest, kept}
 use Rattle.keytable.specs.Row.{nameMax, useOf}
-use Rattle.keytable.specs.Table.{rowCount, tableOk, rowFor, placeOf}
-use Rattle.keytable.specs.declared.Found.{Found}
-use Rattle.keytable.specs.declared.Found.the-variants.{At, Nothing}
+use Rattle.keytable.specs.Table.{rowCount, tableOk, rowFor}
 use Rattle.keytable.specs.declared.Table.{Table}
 use Rattle.keytable.specs.declared.Table.the-variants.{Rows, Broken}
 
@@ -18,10 +16,13 @@ use Rattle.keytable.specs.declared.Table.the-variants.{Rows, Broken}
 abbrev pub Answer : Type 0
 Answer = ℕ × List ℕ
 
--- ---- the check: "1: the table breaks its layout, or has more than 64 rows"
+-- ---- the check: 1, "the table breaks its layout, or has more than 64 rows"
+
+abbrev pub checkTests : List ℕ → Tests
+checkTests t = (1, not (tableOk t)) ∷ []
 
 unfoldable pub tableNumber : List ℕ → ℕ
-tableNumber t = lowest ((1, not (tableOk t)) ∷ [])
+tableNumber t = lowest (checkTests t)
 
 abbrev pub tableSays : Table → Answer
 tableSays (Rows r) = (0, r ∷ [])
@@ -29,19 +30,6 @@ tableSays Broken = (1, [])
 
 unfoldable pub tableAnswer : List ℕ → Answer
 tableAnswer t = (tableNumber t, when (tableOk t) (rowCount t ∷ []) [])
-
--- ---- the place of a name: "6: no row of that name"
-
-abbrev pub foundSays : Found → Answer
-foundSays (At i) = (0, i ∷ [])
-foundSays Nothing = (6, [])
-
-abbrev pub placeSays : Option ℕ → Answer
-placeSays none = (6, [])
-placeSays (some i) = (0, i ∷ [])
-
-abbrev pub foundAnswer : List ℕ → List ℕ → Answer
-foundAnswer t name = placeSays (placeOf t name)
 
 -- ---- the lookup as a call of its own: by whether the table is accepted and the row that matched; the use is lent, and changed by 0 alone
 
@@ -53,13 +41,14 @@ abbrev pub useIn : Option (List ℕ) → ℕ
 useIn none = 0
 useIn (some row) = useOf row
 
+abbrev pub useTests : Bool → Option (List ℕ) → List ℕ → Tests
+useTests ok row name = (1, not ok) ∷ (2, eqb (length name) 0) ∷ (4, ltb nameMax (length name)) ∷ (6, missing row) ∷ []
+
 unfoldable pub useNumber : Bool → Option (List ℕ) → List ℕ → ℕ
-useNumber ok row name =
-    lowest ((1, not ok) ∷ (2, eqb (length name) 0) ∷ (4, ltb nameMax (length name)) ∷ (6, missing row) ∷ [])
+useNumber ok row name = lowest (useTests ok row name)
 
 unfoldable pub useAnswer : Bool → Option (List ℕ) → List ℕ → ℕ → ℕ × ℕ
-useAnswer ok row name before =
-    (useNumber ok row name, when (eqb (useNumber ok row name) 0) (useIn row) before)
+useAnswer ok row name before = (useNumber ok row name, kept (useNumber ok row name) (useIn row) before)
 
 abbrev pub findUse : List ℕ → List ℕ → ℕ → ℕ × ℕ
 findUse t name before = useAnswer (tableOk t) (rowFor t name) name before

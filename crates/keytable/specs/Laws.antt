@@ -2,16 +2,19 @@
 -- Assumes nothing.
 use mathlib.Core.Path.{_≡_}
 use mathlib.Core.Logic.{_↔_}
-use mathlib.Core.Bool.{true, false}
+use mathlib.Core.Bool.{Bool, true, false}
 use mathlib.Core.List.{List, [], _∷_}
-use mathlib.Core.Option.{some, none}
+use mathlib.Core.Option.{Option, some, none}
 use Prim.Native.Nat.{ℕ, _+_, _≤_, _<_}
 use lib.ListN.{length, getD}
-use Rattle.keytable.specs.Row.{nameMax, rowSize, keySize, nameLength, nameOf, useOf, keyOf, rowOk, named}
-use Rattle.keytable.specs.Table.{rowCount, rowsOf, tableOk, holders, rowFor, rowAt}
-use Rattle.keytable.specs.Calls.{tableSays, tableAnswer, foundSays, foundAnswer, findUse}
+use Rattle.octets.specs.Lowest.{rises}
+use Rattle.octets.specs.Places.{Placed}
+use Rattle.octets.specs.Unique.{UniqueBy, Unique}
+use Rattle.keytable.specs.Row.{rowSize, keySize, nameLength, nameOf, useOf, keyOf, rowOk, named, keyIn}
+use Rattle.keytable.specs.Table.{rowCount, headOk, rowsOf, tableOk, holders, rowFor, rowAt, rowIn}
+use Rattle.keytable.specs.Calls.{checkTests, tableSays, tableAnswer, useTests, findUse}
+use Rattle.keytable.specs.Find.{foundSays, foundAnswer, rowFound}
 use Rattle.keytable.specs.declared.Found.{Found}
-use Rattle.keytable.specs.declared.Table.{Table}
 
 -- ---- names
 
@@ -34,6 +37,10 @@ AtMostOne = (t name : List ℕ) → tableOk t ≡ true → length (holders name 
 
 -- ---- the lookup
 
+-- what a lookup found, in an accepted table, is the row of the name
+abbrev pub FindsRow : Type 0
+FindsRow = (t name : List ℕ) (f : Found) → tableOk t ≡ true → foundSays f ≡ foundAnswer t name → rowFor t name ≡ rowFound t f
+
 -- row stands at a place that the lookup of the name gives, within the table
 pub record FoundRow (t name row : List ℕ) : Type 0 where
   pub place : ℕ
@@ -43,10 +50,14 @@ pub record FoundRow (t name row : List ℕ) : Type 0 where
 
 -- a place is given exactly where there is such a row, and the row there is that row
 abbrev pub FindsExactly : Type 0
-FindsExactly = (t name row : List ℕ) → tableOk t ≡ true → length name ≤ nameMax → FoundRow t name row ↔ (rowFor t name ≡ some row)
+FindsExactly = (t name row : List ℕ) → tableOk t ≡ true → FoundRow t name row ↔ (rowFor t name ≡ some row)
 
 abbrev pub ElseNothing : Type 0
-ElseNothing = (t name : List ℕ) → tableOk t ≡ true → length name ≤ nameMax → (foundAnswer t name ≡ (6, [])) ↔ (rowFor t name ≡ none)
+ElseNothing = (t name : List ℕ) → tableOk t ≡ true → (foundAnswer t name ≡ (6, [])) ↔ (rowFor t name ≡ none)
+
+-- and 1 is said exactly of a table whose header breaks the layout
+abbrev pub FindsBroken : Type 0
+FindsBroken = (t name : List ℕ) → (foundAnswer t name ≡ (1, [])) ↔ (headOk t ≡ false)
 
 -- the row of a name in an accepted table keeps to the layout, has that name, and has a whole key
 pub record GoodRow (name row : List ℕ) : Type 0 where
@@ -71,6 +82,14 @@ HoldersRow =
     (t u name : List ℕ) → tableOk t ≡ true → tableOk u ≡ true → holders name (rowsOf t) ≡ holders name (rowsOf u)
     → rowFor t name ≡ rowFor u name
 
+-- ---- "The lowest that applies is given, and no other."
+
+abbrev pub CheckTestsRise : Type 0
+CheckTestsRise = (t : List ℕ) → rises (checkTests t) ≡ true
+
+abbrev pub UseTestsRise : Type 0
+UseTestsRise = (ok : Bool) (row : Option (List ℕ)) (name : List ℕ) → rises (useTests ok row name) ≡ true
+
 -- ---- "Empty table: 00 01 00 00 00 08 00 48"
 
 abbrev pub emptyTable : List ℕ
@@ -82,19 +101,19 @@ EmptyTable = tableAnswer emptyTable ≡ (0, 0 ∷ [])
 -- ---- for each input one answer, and one state of what is lent
 
 abbrev pub CheckUnique : Type 0
-CheckUnique = (t : List ℕ) (a b : Table) → tableSays a ≡ tableAnswer t → tableSays b ≡ tableAnswer t → a ≡ b
+CheckUnique = (t : List ℕ) → UniqueBy tableSays (tableAnswer t)
 
 abbrev pub FindUnique : Type 0
-FindUnique = (t name : List ℕ) (a b : Found) → foundSays a ≡ foundAnswer t name → foundSays b ≡ foundAnswer t name → a ≡ b
+FindUnique = (t name : List ℕ) → UniqueBy foundSays (foundAnswer t name)
 
 abbrev pub RowAtUnique : Type 0
-RowAtUnique = (t : List ℕ) (at : ℕ) (a b : List ℕ) → a ≡ rowAt t at → b ≡ rowAt t at → a ≡ b
+RowAtUnique = (t : Placed) (at : ℕ) → Unique (rowIn t at)
 
 abbrev pub UseAtUnique : Type 0
-UseAtUnique = (t : List ℕ) (at a b : ℕ) → a ≡ useOf (rowAt t at) → b ≡ useOf (rowAt t at) → a ≡ b
+UseAtUnique = (t : List ℕ) (at : ℕ) → Unique (useOf (rowAt t at))
 
 abbrev pub KeyAtUnique : Type 0
-KeyAtUnique = (t : List ℕ) (at : ℕ) (a b : List ℕ) → a ≡ keyOf (rowAt t at) → b ≡ keyOf (rowAt t at) → a ≡ b
+KeyAtUnique = (t : Placed) (at : ℕ) → Unique (keyIn (rowIn t at))
 
 abbrev pub FindUseUnique : Type 0
-FindUseUnique = (t name : List ℕ) (before : ℕ) (a b : ℕ × ℕ) → findUse t name before ≡ a → findUse t name before ≡ b → a ≡ b
+FindUseUnique = (t name : List ℕ) (before : ℕ) → Unique (findUse t name before)

@@ -1,4 +1,5 @@
 pub mod Row
 pub mod Table
 pub mod Calls
+pub mod Find
 pub mod Laws

@@ -6,6 +6,7 @@ use mathlib.Core.List.{List, [], _∷_}
 use lib.ListN.{length, getD}
 use lib.Dec.{eqb, leb}
 use Rattle.octets.specs.Same.{same}
+use Rattle.octets.specs.Places.{Placed, partIn}
 use Rattle.octets.specs.Tests.{every, zeros, partOf}
 
 -- "Row: 0 name length 1 to 32; 1 use (01h CCM, 02h GCM, 03h key-encrypting key); 2-7 zero; 8-39 name, zeros after its length; 40-71 key"
@@ -38,6 +39,10 @@ nameOf row = partOf row nameAt (nameLength row)
 
 abbrev pub keyOf : List ℕ → List ℕ
 keyOf row = partOf row keyAt keySize
+
+-- as the part of the row that it is
+abbrev pub keyIn : Placed → Placed
+keyIn row = partIn row keyAt keySize
 
 abbrev pub rowTests : List ℕ → List Bool
 rowTests row =

@@ -9,7 +9,8 @@ use lib.Dec.{eqb, leb}
 use Rattle.octets.specs.BigEndian.{numberAt}
 use Rattle.octets.specs.Lent.{when}
 use Rattle.octets.specs.Tests.{every, all, partOf}
-use Rattle.keytable.specs.Row.{nameMax, rowSize, nameOf, rowOk, named}
+use Rattle.octets.specs.Places.{Placed, partIn}
+use Rattle.keytable.specs.Row.{rowSize, nameOf, rowOk, named}
 
 -- "Header: 0-1 format 0001h; 2-3 row count r; 4-5 offset of the first row, 0008h; 6-7 row length, 0048h. Total exactly 8+72r"
 abbrev pub tableFormat : ℕ
@@ -64,7 +65,7 @@ tableTests t = headOk t ∷ all rowOk (rowsOf t) ∷ distinct (rowsOf t) ∷ []
 unfoldable pub tableOk : List ℕ → Bool
 tableOk t = every (tableTests t)
 
--- "A name is matched whole": the rows of this name, the first of them, and its place where the first row stands at place i
+-- "A name is matched whole": the rows of this name, and the first of them
 unfoldable pub holders : List ℕ → List (List ℕ) → List (List ℕ)
 holders name [] = []
 holders name (row ∷ rest) = when (named name row) (row ∷ holders name rest) (holders name rest)
@@ -73,18 +74,21 @@ unfoldable pub lookup : List ℕ → List (List ℕ) → Option (List ℕ)
 lookup name [] = none
 lookup name (row ∷ rest) = when (named name row) (some row) (lookup name rest)
 
-unfoldable pub placeFrom : ℕ → List ℕ → List (List ℕ) → Option ℕ
-placeFrom i name [] = none
-placeFrom i name (row ∷ rest) = when (named name row) (some i) (placeFrom (i + rowSize) name rest)
-
 -- the row of a name, and what all definitions above the table take of it
 abbrev pub rowFor : List ℕ → List ℕ → Option (List ℕ)
 rowFor t name = lookup name (rowsOf t)
 
--- the place of a name's row, where the header keeps to the layout and the name to its maximum, and else none
-unfoldable pub placeOf : List ℕ → List ℕ → Option ℕ
-placeOf t name = when (headOk t && leb (length name) nameMax) (placeFrom headSize name (rowsOf t)) none
+-- the row that a record's name, or a reference, looks for
+abbrev pub dataRow : List ℕ → List ℕ → Option (List ℕ)
+dataRow t name = rowFor t name
 
 -- the row's bytes from a place, and none where they do not lie in the table
-unfoldable pub rowAt : List ℕ → ℕ → List ℕ
-rowAt t i = when (leb (i + rowSize) (length t)) (partOf t i rowSize) []
+unfoldable pub rowSizeAt : List ℕ → ℕ → ℕ
+rowSizeAt t i = when (leb (i + rowSize) (length t)) rowSize 0
+
+abbrev pub rowAt : List ℕ → ℕ → List ℕ
+rowAt t i = partOf t i (rowSizeAt t i)
+
+-- as the part of the table that they are
+abbrev pub rowIn : Placed → ℕ → Placed
+rowIn t i = partIn t i (rowSizeAt (t .bytes) i)

@@ -1,11 +1,11 @@
 // The key table of document 01: its check, and the lookup of a name. specs/Table.antt has the layout, specs/Calls.antt the numbers.
-mod parts;
 mod row;
 mod rows;
 mod sizes;
 
+use octets::big_endian::read8;
 use octets::big_endian::read16;
-use parts::part;
+use octets::strings::cut;
 use rows::find_from;
 use rows::names_differ;
 use rows::rows_ok;
@@ -17,9 +17,11 @@ use sizes::ROW_MAX;
 use sizes::ROW_SIZE;
 use sizes::TABLE_FORMAT;
 ghost use mathlib.Core.Path.{_≡_};
-ghost use Rattle.keytable.specs.Row.{useOf, keyOf};
-ghost use Rattle.keytable.specs.Table.{headOk, rowAt};
-ghost use Rattle.keytable.specs.Calls.{tableSays, tableAnswer, foundSays, foundAnswer, findUse};
+ghost use Rattle.octets.specs.Places.{placed};
+ghost use Rattle.keytable.specs.Row.{useOf, keyIn};
+ghost use Rattle.keytable.specs.Table.{headOk, rowSizeAt, rowAt, rowIn};
+ghost use Rattle.keytable.specs.Calls.{tableSays, tableAnswer, findUse};
+ghost use Rattle.keytable.specs.Find.{foundSays, foundAnswer};
 
 // What checking a table finds: the number of its rows.
 pub enum Table {
@@ -27,10 +29,12 @@ pub enum Table {
     Broken,
 }
 
-// What a lookup finds: the place of the name's row, for the crates above; it is never answered outside.
+// What a lookup finds: the place of the name's row, for the crates above; it is never answered outside. Nothing is number 6; Broken is number 1, of a
+// header that breaks its layout.
 pub enum Found {
     At(usize),
     Nothing,
+    Broken,
 }
 
 // Whether the header keeps to the layout, and the total to its count of rows.
@@ -62,12 +66,13 @@ pub fn check(t: &[u8]) -> Table
     Table::Rows(r)
 }
 
-// The place of the first row with this whole name. Nothing where there is none, where the header breaks its layout, and for a name of more than 32 bytes.
+// The place of the first row with this whole name, or Nothing where there is none, as for a name of more than 32 bytes. It is for callers that have
+// checked the table: of the layout it looks at the header alone.
 pub fn find(t: &[u8], name: &[u8]) -> Found
     ensures { λ f. ⌜ foundSays f ≡ foundAnswer (now (t .entry)) (now (name .entry)) ⌝ }
 {
     if !head_ok(t) {
-        return Found::Nothing;
+        return Found::Broken;
     }
     if name.len() > NAME_MAX {
         return Found::Nothing;
@@ -75,38 +80,37 @@ pub fn find(t: &[u8], name: &[u8]) -> Found
     find_from(t, read16(t, 2), 0, name)
 }
 
-// The bytes of the row at a place, and none where they do not lie in the table.
-pub fn row_at(t: &[u8], at: usize) -> &[u8]
-    ensures { λ r. ⌜ now r ≡ rowAt (now (t .entry)) at ⌝ }
+// How long the row at a place is: a row's size, or none where it does not lie in the table.
+fn row_size_at(t: &[u8], at: usize) -> usize
+    ensures { λ n. ⌜ n ≡ rowSizeAt (now (t .entry)) at ⌝ }
 {
     if at > t.len() {
-        return part(t, 0, 0);
+        return 0;
     }
     if t.len() - at < ROW_SIZE {
-        return part(t, 0, 0);
+        return 0;
     }
-    part(t, at, ROW_SIZE)
+    ROW_SIZE
+}
+
+// The row at a place, as the part of the table that it is, and none where it does not lie in the table.
+pub fn row_at(t: &[u8], at: usize) -> &[u8]
+    ensures { λ r. ⌜ placed r ≡ rowIn (placed (t .entry)) at ⌝ }
+{
+    cut(t, at, row_size_at(t, at))
 }
 
 // The use and the key of the row at a place; 0 and none where no row lies there.
 pub fn use_at(t: &[u8], at: usize) -> u8
     ensures { λ u. ⌜ u ≡ useOf (rowAt (now (t .entry)) at) ⌝ }
 {
-    let row = row_at(t, at);
-    if row.len() < ROW_SIZE {
-        return 0;
-    }
-    row[1]
+    read8(row_at(t, at), 1) as u8
 }
 
 pub fn key_at(t: &[u8], at: usize) -> &[u8]
-    ensures { λ k. ⌜ now k ≡ keyOf (rowAt (now (t .entry)) at) ⌝ }
+    ensures { λ k. ⌜ placed k ≡ keyIn (rowIn (placed (t .entry)) at) ⌝ }
 {
-    let row = row_at(t, at);
-    if row.len() < ROW_SIZE {
-        return row;
-    }
-    part(row, KEY_AT, KEY_SIZE)
+    cut(row_at(t, at), KEY_AT, KEY_SIZE)
 }
 
 // Stores the use of the name's row, and answers 0; or changes nothing, and answers 1 where the table is broken, 2 for an empty name,

@@ -1,20 +1,18 @@
 // The rows of a key table: whether all keep to the layout, which has a name, and whether no two have the same.
 use crate::Found;
-use crate::parts::part;
-use crate::parts::wide;
 use crate::row::has_name;
+use crate::row::name_of;
 use crate::row::row_ok;
 use crate::sizes::HEAD_SIZE;
-use crate::sizes::NAME_AT;
 use crate::sizes::ROW_SIZE;
+use octets::strings::part;
 ghost use mathlib.Core.Path.{_≡_};
-ghost use mathlib.Core.Bool.{true};
 ghost use Prim.Native.Nat.{_≤_};
 ghost use lib.ListN.{length, drop};
 ghost use Rattle.octets.specs.Tests.{all};
-ghost use Rattle.keytable.specs.Row.{nameMax, rowOk};
-ghost use Rattle.keytable.specs.Table.{rowPlace, rowCount, rowsOf, distinct, placeFrom};
-ghost use Rattle.keytable.specs.Calls.{foundSays, placeSays};
+ghost use Rattle.keytable.specs.Row.{rowOk};
+ghost use Rattle.keytable.specs.Table.{rowPlace, rowCount, rowsOf, distinct};
+ghost use Rattle.keytable.specs.Find.{foundSays, placeFrom};
 
 // Whether each row keeps to the layout.
 pub(crate) fn rows_ok(t: &[u8], r: usize) -> bool
@@ -33,8 +31,8 @@ pub(crate) fn rows_ok(t: &[u8], r: usize) -> bool
 
 // The place of the first row from number `from` on that has this name.
 pub(crate) fn find_from(t: &[u8], r: usize, from: usize, name: &[u8]) -> Found
-    requires { ⌜ (length (now t) ≡ rowPlace r) × (r ≡ rowCount (now t)) × (from ≤ r) × (length (now name) ≤ nameMax) ⌝ }
-    ensures { λ f. ⌜ foundSays f ≡ placeSays (placeFrom (rowPlace from) (now (name .entry)) (drop from (rowsOf (now (t .entry))))) ⌝ }
+    requires { ⌜ (length (now t) ≡ rowPlace r) × (r ≡ rowCount (now t)) × (from ≤ r) ⌝ }
+    ensures { λ f. ⌜ foundSays f ≡ foundSays (placeFrom (rowPlace from) (now (name .entry)) (drop from (rowsOf (now (t .entry))))) ⌝ }
 {
     let mut i = from;
     while i < r {
@@ -49,17 +47,17 @@ pub(crate) fn find_from(t: &[u8], r: usize, from: usize, name: &[u8]) -> Found
 
 // Whether no two rows have the same name.
 pub(crate) fn names_differ(t: &[u8], r: usize) -> bool
-    requires { ⌜ (length (now t) ≡ rowPlace r) × (r ≡ rowCount (now t)) × (all rowOk (rowsOf (now t)) ≡ true) ⌝ }
+    requires { ⌜ (length (now t) ≡ rowPlace r) × (r ≡ rowCount (now t)) ⌝ }
     ensures { λ ok. ⌜ ok ≡ distinct (rowsOf (now (t .entry))) ⌝ }
 {
     let mut i = 0;
     while i < r {
-        let row = part(t, HEAD_SIZE + ROW_SIZE * i, ROW_SIZE);
-        let name = part(row, NAME_AT, wide(row[0]));
-        let Found::Nothing = find_from(t, r, i + 1, name) else {
+        let next = i + 1;
+        let name = name_of(part(t, HEAD_SIZE + ROW_SIZE * i, ROW_SIZE));
+        let Found::Nothing = find_from(t, r, next, name) else {
             return false;
         };
-        i += 1;
+        i = next;
     }
     true
 }

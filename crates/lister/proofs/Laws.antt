@@ -6,7 +6,9 @@ use Prim.Native.Nat.{ℕ}
 use native.Mathlib.Omega.{arith}
 use lib.ListN.{length, replicate}
 use Rattle.octets.specs.Tests.{all}
-use Rattle.octets.proofs.Lent.{length-over, one-answer}
+use Rattle.octets.proofs.Lent.{length-over}
+use Rattle.octets.proofs.Unique.{unique-by}
+use Rattle.lister.specs.declared.Text.{Text}
 use Rattle.descriptors.specs.Descriptor.{sizeSaid, sizeOf}
 use Rattle.descriptors.specs.Parse.{split}
 use Rattle.descriptors.specs.Tested.{risesFrom, splitOk, unreserved}
@@ -14,7 +16,7 @@ use Rattle.keypage.specs.Page.{pageOk, fieldsOk}
 use Rattle.keypage.specs.KeyPart.{partBroken, partRefused, partLong}
 use Rattle.keypage.specs.Read.{readNumber}
 use Rattle.lister.specs.Decimal.{decimal}
-use Rattle.lister.specs.Listing.{fieldLines, listingNumber, listing, textMax}
+use Rattle.lister.specs.Listing.{fieldLines, listingNumber, listing, textMax, textAnswer}
 use Rattle.lister.specs.Laws.{DecimalReads, DecimalDigits, NoZeroBefore, LongRefused, EmptyRefused, ExampleListed, TextRoom, TextUnique}
 use Rattle.lister.proofs.Decimal.{within-reads, within-digits, within-first}
 use Rattle.lister.proofs.Listing.{listing-long}
@@ -47,4 +49,5 @@ text-room p bytes size e =
     sym (ap (λ (a : ℕ × List ℕ). length (a .1)) e) ∙ length-over (listing p) (replicate textMax 0)
 
 pub text-unique : TextUnique
-text-unique p a b = one-answer
+text-unique p =
+    unique-by (λ (t : Text). (t .size, t .bytes)) (λ (a : ℕ × List ℕ). record { size = a .0; bytes = a .1 }) (λ t. refl) (textAnswer p)

@@ -7,10 +7,12 @@ use Prim.Native.Nat.{ℕ, _<_}
 use lib.Dec.{leb}
 use lib.ListN.{length, getD, replicate}
 use Rattle.octets.specs.Tests.{all}
+use Rattle.octets.specs.Unique.{UniqueBy}
 use Rattle.keypage.specs.Page.{pageMax}
 use Rattle.lister.specs.Decimal.{digit, decimal, valueOf}
 use Rattle.lister.specs.Lines.{line, refusedWord}
 use Rattle.lister.specs.Listing.{linesOf, listing, textMax, textAnswer}
+use Rattle.lister.specs.declared.Text.{Text}
 
 -- ---- decimal digits: read back they are the number, each is a digit, and no zero stands before others
 
@@ -51,4 +53,4 @@ TextRoom = (p bytes : List ℕ) (size : ℕ) → textAnswer p ≡ (size, bytes) 
 
 -- for each input one text
 abbrev pub TextUnique : Type 0
-TextUnique = (p : List ℕ) (a b : ℕ × List ℕ) → textAnswer p ≡ a → textAnswer p ≡ b → a ≡ b
+TextUnique = (p : List ℕ) → UniqueBy (λ (t : Text). (t .size, t .bytes)) (textAnswer p)

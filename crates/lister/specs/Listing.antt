@@ -1,13 +1,11 @@
 -- The page lister's text (document 01, "The page lister"): "It reads a page on standard input and prints its fields, or `refused` and the number."
 -- Assumes nothing.
 use Prim.Native.Nat.{ℕ}
-use mathlib.Core.Bool.{false}
 use mathlib.Core.List.{List, _++_}
 use lib.Dec.{eqb, ltb}
 use lib.ListN.{length, replicate}
 use Rattle.octets.specs.Lent.{when, over}
-use Rattle.descriptors.specs.Tested.{countOf}
-use Rattle.keypage.specs.Page.{pageMax, scopeIn, lockIn, encryptionIn, decryptionIn, algorithmIn, formatIn, keyLength, listIn}
+use Rattle.keypage.specs.Page.{pageMax, scopeIn, lockIn, encryptionIn, decryptionIn, algorithmIn, formatIn, keyLength, listIn, pageListCount}
 use Rattle.keypage.specs.Read.{readNumber}
 use Rattle.lister.specs.Lines.{line, scopeWord, lockWord, encryptWord, decryptWord, algorithmWord, formatWord, keyLengthWord, descriptorsWord, refusedWord}
 
@@ -25,7 +23,7 @@ linesOf scope lock encrypt decrypt algorithm format length descriptors =
 
 unfoldable pub fieldLines : List ℕ → List ℕ
 fieldLines p =
-    linesOf (scopeIn p) (lockIn p) (encryptionIn p) (decryptionIn p) (algorithmIn p) (formatIn p) (keyLength p) (countOf false (listIn p))
+    linesOf (scopeIn p) (lockIn p) (encryptionIn p) (decryptionIn p) (algorithmIn p) (formatIn p) (keyLength p) (pageListCount (listIn p))
 
 -- "Its tests are 2, 3 and 4." "One over 4,096 bytes prints `refused 4` with no other test."
 unfoldable pub listingNumber : List ℕ → ℕ

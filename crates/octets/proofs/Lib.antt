@@ -10,3 +10,4 @@ pub mod Blocks
 pub mod Running
 pub mod Tests
 pub mod Arrays
+pub mod Places

@@ -9,3 +9,4 @@ pub mod Unique
 pub mod Blocks
 pub mod Running
 pub mod Tests
+pub mod Places

@@ -4,6 +4,7 @@ ghost use Rattle.octets.specs.Xor.{xors};
 ghost use Rattle.octets.specs.Same.{same};
 ghost use Rattle.octets.specs.Lent.{over};
 ghost use Rattle.octets.specs.Tests.{partOf, zeros};
+ghost use Rattle.octets.specs.Places.{placed, partIn};
 
 // Whether two strings have the same length and the same bytes. Every byte is looked at, whatever the earlier ones are.
 pub fn equal(a: &[u8], b: &[u8]) -> bool
@@ -59,18 +60,25 @@ pub fn put(out: &mut [u8], s: &[u8])
     }
 }
 
-// The n bytes from place i on, as far as the string reaches.
-pub fn part(s: &[u8], i: usize, n: usize) -> &[u8]
-    ensures { λ r. ⌜ now r ≡ partOf (now (s .entry)) i n ⌝ }
+// The n bytes from place i on, as far as the string reaches, as the part of the string that they are.
+pub fn cut(s: &[u8], i: usize, n: usize) -> &[u8]
+    ensures { λ r. ⌜ placed r ≡ partIn (placed (s .entry)) i n ⌝ }
 {
     if i > s.len() {
-        return &s[0..0];
+        return &s[s.len()..];
     }
     if n > s.len() - i {
         return &s[i..];
     }
     let e = i + n;
     &s[i..e]
+}
+
+// The same, for callers that ask for no more than its bytes.
+pub fn part(s: &[u8], i: usize, n: usize) -> &[u8]
+    ensures { λ r. ⌜ now r ≡ partOf (now (s .entry)) i n ⌝ }
+{
+    cut(s, i, n)
 }
 
 // Whether every byte is zero.

@@ -10,7 +10,7 @@ use Rattle.octets.specs.Lent.{over, answer}
 use Rattle.octets.proofs.Bytes.{bytes-append}
 use Rattle.octets.proofs.BigEndian.{bytes-be}
 use Rattle.keytable.specs.Row.{useOf, keyOf}
-use Rattle.keytable.specs.Table.{tableOk, rowFor}
+use Rattle.keytable.specs.Table.{tableOk, dataRow}
 use Rattle.session.specs.Iv.{fieldSize, ivOf}
 use Rattle.session.specs.Calls.{sessionAfter}
 use Rattle.record.specs.Record.{countIn, nameIn}
@@ -51,9 +51,9 @@ answers-alike n n′ size result out out′ same-number same-room fits =
 -- ---- sealing
 
 module _ (t name iv a p : List ℕ) (room : ℕ) (table-bytes : Bytes t) (iv-bytes : Bytes iv) where
-  record-fits : Fits (sealNumber (tableOk t) (rowFor t name) name iv a (length p) room) (sealedSize (rowFor t name) name (length p)) (recordBy (rowFor t name) name iv a p) room
+  record-fits : Fits (sealNumber (tableOk t) (dataRow t name) name iv a (length p) room) (sealedSize (dataRow t name) name (length p)) (recordBy (dataRow t name) name iv a p) room
   record-fits e =
-      let h = in-range (tableOk t) name iv a (length p) room (rowFor t name) e in
+      let h = in-range (tableOk t) name iv a (length p) room (dataRow t name) e in
       rw (h .has-row) (
         length-recordOf (useOf (h .row)) (keyOf (h .row)) name iv a p (row-keyed t name (h .row) iv table-bytes iv-bytes (h .accepted) (h .has-row) (h .iv-size)) (h .permitted),
         h .room-fits,
@@ -62,38 +62,38 @@ module _ (t name iv a p : List ℕ) (room : ℕ) (table-bytes : Bytes t) (iv-byt
 pub seal-alike : SealEarlier
 unfolding sealRow
 seal-alike t name iv a p out out′ table-bytes iv-bytes same =
-    answers-alike (number (length out)) (number (length out′)) (sealedSize (rowFor t name) name (length p)) (recordBy (rowFor t name) name iv a p) out out′
+    answers-alike (number (length out)) (number (length out′)) (sealedSize (dataRow t name) name (length p)) (recordBy (dataRow t name) name iv a p) out out′
     (ap number same) same (record-fits t name iv a p (length out) table-bytes iv-bytes)
   where
     number : ℕ → ℕ
-    number room = sealNumber (tableOk t) (rowFor t name) name iv a (length p) room
+    number room = sealNumber (tableOk t) (dataRow t name) name iv a (length p) room
 
 pub next-alike : NextEarlier
 unfolding sealNextRow
 next-alike s t name a p out out′ table-bytes prefix-bytes same = (
-  answers-alike (number (length out)) (number (length out′)) (sealedSize (rowFor t name) name (length p)) (recordBy (rowFor t name) name (ivOf s) a p) out out′
+  answers-alike (number (length out)) (number (length out′)) (sealedSize (dataRow t name) name (length p)) (recordBy (dataRow t name) name (ivOf s) a p) out out′
       (ap number same) same
       (λ e.
       record-fits t name (ivOf s) a p (length out) table-bytes (bytes-append prefix-bytes (bytes-be fieldSize (s .next)))
-      (next-zero s (tableOk t) (rowFor t name) name a p (length out) e .0)),
+      (next-zero s (tableOk t) (dataRow t name) name a p (length out) e .0)),
   ap (λ (n : ℕ). sessionAfter (number n) s) same,
 )
   where
     number : ℕ → ℕ
-    number room = sealNextNumber s (tableOk t) (rowFor t name) name a (length p) room
+    number room = sealNextNumber s (tableOk t) (dataRow t name) name a (length p) room
 
 -- ---- opening
 
 pub open-alike : OpenEarlier
 unfolding openRow
 open-alike t r a out out′ count count′ table-bytes bytes same =
-    answers-alike (number (length out)) (number (length out′)) (countIn r) (plaintextIn (rowFor t (nameIn r)) r) out out′ (ap number same) same fits
+    answers-alike (number (length out)) (number (length out′)) (countIn r) (plaintextIn (dataRow t (nameIn r)) r) out out′ (ap number same) same fits
   where
     number : ℕ → ℕ
-    number room = openNumber (tableOk t) (rowFor t (nameIn r)) r a room
+    number room = openNumber (tableOk t) (dataRow t (nameIn r)) r a room
 
-    fits : Fits (number (length out)) (countIn r) (plaintextIn (rowFor t (nameIn r)) r) (length out)
+    fits : Fits (number (length out)) (countIn r) (plaintextIn (dataRow t (nameIn r)) r) (length out)
     fits e =
-        let (row, has) = open-row (tableOk t) r a (length out) (rowFor t (nameIn r)) e in
+        let (row, has) = open-row (tableOk t) r a (length out) (dataRow t (nameIn r)) e in
         let h = openable (tableOk t) r a (length out) row (rw has at e) in
         rw has (length-plaintextBy (keyOf row) r (open-keyed t r a row (length out) table-bytes bytes has h) (h .layout), h .fits)

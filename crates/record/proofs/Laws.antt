@@ -12,7 +12,7 @@ use Rattle.octets.specs.Bytes.{Bytes}
 use Rattle.octets.proofs.Lent.{over-injective}
 use Rattle.octets.proofs.Unique.{unique, unique-by}
 use Rattle.keytable.specs.Row.{useOf, keyOf}
-use Rattle.keytable.specs.Table.{tableOk, rowFor}
+use Rattle.keytable.specs.Table.{tableOk, dataRow}
 use Rattle.record.specs.Record.{nameIn, ivIn}
 use Rattle.record.specs.Read.{headerSays, readNumber, readAnswer}
 use Rattle.record.specs.Seal.{sealAnswer}
@@ -65,7 +65,7 @@ pub else-refuses : ElseRefuses
 else-refuses t r a out count table-bytes bytes none = go (eqb number 0) refl
   where
     number : ℕ
-    number = openNumber (tableOk t) (rowFor t (nameIn r)) r a (length out)
+    number = openNumber (tableOk t) (dataRow t (nameIn r)) r a (length out)
 
     -- where the number is 0, some p is opened
     not-zero : number ≡ 0 → ⊥
@@ -76,7 +76,7 @@ else-refuses t r a out count table-bytes bytes none = go (eqb number 0) refl
 
     go : (b : Bool) → eqb number 0 ≡ b → Refuses t r a out count
     go true e = absurd (not-zero (eqb-true number 0 e))
-    go false e = record { number = number; not-zero = not-zero; answers = open-refused (tableOk t) (rowFor t (nameIn r)) r a out count e }
+    go false e = record { number = number; not-zero = not-zero; answers = open-refused (tableOk t) (dataRow t (nameIn r)) r a out count e }
 
 pub sealed-opens : SealedOpens
 sealed-opens t name iv a p r out count table-bytes bytes h room =

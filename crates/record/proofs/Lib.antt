@@ -5,7 +5,6 @@ pub mod Apart
 pub mod Written
 pub mod Filled
 pub mod Laid
-pub mod Looked
 pub mod Sealed
 pub mod Ready
 pub mod WithSession

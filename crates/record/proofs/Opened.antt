@@ -12,7 +12,7 @@ use lib.ListN.{length}
 use Rattle.octets.specs.Bytes.{Bytes}
 use Rattle.octets.specs.Lent.{over}
 use Rattle.keytable.specs.Row.{nameMax, useOf, keyOf}
-use Rattle.keytable.specs.Table.{tableOk, rowFor}
+use Rattle.keytable.specs.Table.{tableOk, dataRow}
 use Rattle.modes.specs.Calls.{textMax}
 use Rattle.modes.specs.Modes.{namesMode, modeOf}
 use Rattle.modes.specs.Laws.{Keyed}
@@ -96,7 +96,7 @@ length-plaintextBy key r keyed layout =
     modes-fitting (modeIn r) .plaintext-length key (ivIn r) (textIn r) keyed (permits-textIn r layout) ∙ length-textIn r layout
 
 -- the row's key and the record's IV
-pub open-keyed : (t r a row : List ℕ) (room : ℕ) → Bytes t → Bytes r → rowFor t (nameIn r) ≡ some row → Openable (tableOk t) row r a room
+pub open-keyed : (t r a row : List ℕ) (room : ℕ) → Bytes t → Bytes r → dataRow t (nameIn r) ≡ some row → Openable (tableOk t) row r a room
     → Keyed (modeFor r) (keyOf row) (ivIn r)
 open-keyed t r a row room table-bytes bytes has h =
     subst (λ (u : ℕ). Keyed (modeOf u) (keyOf row) (ivIn r)) (h .use-is)
@@ -108,25 +108,25 @@ open-keyed t r a row room table-bytes bytes has h =
 -- opening gives p: over its definitions
 pub record OpenedAs (t r a out p : List ℕ) : Type 0 where
   pub row : List ℕ
-  pub has-row : rowFor t (nameIn r) ≡ some row
+  pub has-row : dataRow t (nameIn r) ≡ some row
   pub able : Openable (tableOk t) row r a (length out)
   pub is : plaintextBy (keyOf row) r ≡ p
 
 module _ (t r a out : List ℕ) (count : ℕ) where
-  pub open-done : (row : List ℕ) → rowFor t (nameIn r) ≡ some row → Openable (tableOk t) row r a (length out)
+  pub open-done : (row : List ℕ) → dataRow t (nameIn r) ≡ some row → Openable (tableOk t) row r a (length out)
       → openAnswer t r a out count ≡ ((0, over (plaintextBy (keyOf row) r) out), countIn r)
   unfolding openRow
   open-done row is h = rw (is, open-passed (tableOk t) r a (length out) row h)
 
-  pub open-number : openAnswer t r a out count .0 .0 ≡ openNumber (tableOk t) (rowFor t (nameIn r)) r a (length out)
+  pub open-number : openAnswer t r a out count .0 .0 ≡ openNumber (tableOk t) (dataRow t (nameIn r)) r a (length out)
   unfolding openRow
   open-number = refl
 
   -- 0 came of a row by which every test is passed
-  pub opened-row : openAnswer t r a out count .0 .0 ≡ 0 → (row : List ℕ) × (rowFor t (nameIn r) ≡ some row) × Openable (tableOk t) row r a (length out)
+  pub opened-row : openAnswer t r a out count .0 .0 ≡ 0 → (row : List ℕ) × (dataRow t (nameIn r) ≡ some row) × Openable (tableOk t) row r a (length out)
   opened-row e =
       let number = sym open-number ∙ e in
-      let (row, has) = open-row (tableOk t) r a (length out) (rowFor t (nameIn r)) number in
+      let (row, has) = open-row (tableOk t) r a (length out) (dataRow t (nameIn r)) number in
       (row, has, openable (tableOk t) r a (length out) row (rw has at number))
 
   -- where p is what is opened: the count is its length, and there is room for it

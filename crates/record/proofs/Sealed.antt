@@ -16,7 +16,7 @@ use Rattle.octets.specs.Tests.{partOf}
 use Rattle.octets.proofs.Tests.{or-left, or-right, part-at}
 use Rattle.octets.proofs.Bytes.{bytes-take, bytes-drop}
 use Rattle.keytable.specs.Row.{nameMax, useOf, keyOf}
-use Rattle.keytable.specs.Table.{tableOk, rowFor}
+use Rattle.keytable.specs.Table.{tableOk, dataRow}
 use Rattle.keytable.proofs.Laws.{rowFor-good}
 use Rattle.keytable.proofs.RowFound.{row-key-bytes}
 use Rattle.modes.specs.Calls.{textMax}
@@ -106,11 +106,11 @@ pub range-sealed : SealsInRange
 unfolding sealRow
 range-sealed t name iv a p out h =
     ap (λ (o : Option (List ℕ)). sealRow (tableOk t) o name iv a p out) (h .has-row)
-    ∙ answer-done _ _ out (rw (h .has-row) at (seal-passed (tableOk t) name iv a (length p) (length out) (rowFor t name) h))
+    ∙ answer-done _ _ out (rw (h .has-row) at (seal-passed (tableOk t) name iv a (length p) (length out) (dataRow t name) h))
 
 pub zero-told : SealsOnlyInRange
 unfolding sealRow
-zero-told t name iv a p out e = in-range (tableOk t) name iv a (length p) (length out) (rowFor t name) e
+zero-told t name iv a p out e = in-range (tableOk t) name iv a (length p) (length out) (dataRow t name) e
 
 -- ---- the record
 
@@ -138,7 +138,7 @@ module _ (u : ℕ) (key name iv a p : List ℕ) (keyed : Keyed (modeOf u) key iv
       ∙ length-laid u name (length p) iv (textBy u key iv p) (tagBy u key name iv a p) (keyed .iv-size) length-textBy length-tagBy
 
 -- a row's key, and an IV of the length of its use's mode
-pub row-keyed : (t name row iv : List ℕ) → Bytes t → Bytes iv → tableOk t ≡ true → rowFor t name ≡ some row → length iv ≡ modeOf (useOf row) .ivSize
+pub row-keyed : (t name row iv : List ℕ) → Bytes t → Bytes iv → tableOk t ≡ true → dataRow t name ≡ some row → length iv ≡ modeOf (useOf row) .ivSize
     → Keyed (modeOf (useOf row)) (keyOf row) iv
 row-keyed t name row iv bytes iv-bytes ok has size =
     record {
@@ -153,7 +153,7 @@ row-keyed t name row iv bytes iv-bytes ok has size =
 pub record SealedAs (t name iv a p r : List ℕ) : Type 0 where
   pub bytes : Bytes p
   pub iv-bytes : Bytes iv
-  pub able : InRange (tableOk t) (rowFor t name) name iv a (length p) (sealedSize (rowFor t name) name (length p))
+  pub able : InRange (tableOk t) (dataRow t name) name iv a (length p) (sealedSize (dataRow t name) name (length p))
   pub is : recordOf (useOf (able .row)) (keyOf (able .row)) name iv a p ≡ r
 
 -- the IV of bytes that begin with a front and the IV
@@ -182,7 +182,7 @@ module _ (t name iv a p r : List ℕ) (table-bytes : Bytes t) where
   seals-as bytes h = record { bytes = h .bytes; iv-bytes = iv-bytes; able = able; is = is }
     where
       size : ℕ
-      size = sealedSize (rowFor t name) name (length p)
+      size = sealedSize (dataRow t name) name (length p)
 
       out : List ℕ
       out = replicate size 0
@@ -193,7 +193,7 @@ module _ (t name iv a p r : List ℕ) (table-bytes : Bytes t) where
       answered : sealAnswer t name iv a p out ≡ (0, r)
       answered = h .makes out (length-out ∙ ap (λ (o : Option (List ℕ)). sealedSize o name (length p)) (h .has-row))
 
-      inside : InRange (tableOk t) (rowFor t name) name iv a (length p) (length out)
+      inside : InRange (tableOk t) (dataRow t name) name iv a (length p) (length out)
       inside = zero-told t name iv a p out (ap (λ (x : ℕ × List ℕ). x .0) answered)
 
       u : ℕ
@@ -218,7 +218,7 @@ module _ (t name iv a p r : List ℕ) (table-bytes : Bytes t) where
           ∙ ap (λ (o : Option (List ℕ)). sealedSize o name (length p)) (sym (inside .has-row))
           ∙ sym length-out
 
-      able : InRange (tableOk t) (rowFor t name) name iv a (length p) size
+      able : InRange (tableOk t) (dataRow t name) name iv a (length p) size
       able = with-room inside size (omega (arith, inside .room-fits, length-out))
 
       is : recordOf u key name iv a p ≡ r

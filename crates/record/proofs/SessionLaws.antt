@@ -14,7 +14,7 @@ use Rattle.octets.specs.Lent.{when, over}
 use Rattle.octets.proofs.Tests.{part-at}
 use Rattle.octets.proofs.Unique.{unique, unique-by}
 use Rattle.keytable.specs.Row.{nameMax, useOf}
-use Rattle.keytable.specs.Table.{tableOk, rowFor}
+use Rattle.keytable.specs.Table.{tableOk, dataRow}
 use Rattle.session.specs.Iv.{lastField, withFields, isSpent, ivOf, after}
 use Rattle.session.specs.Calls.{Answer, sessionAfter}
 use Rattle.session.specs.Laws.{Run}
@@ -39,24 +39,24 @@ next-other-rows s t u name a p out ok-t ok-u e = rw (ok-t, ok-u, e)
 
 pub next-as-sealing : NextLive
 unfolding sealNextRow sealRow
-next-as-sealing s t name a p out live = rw (next-live s (tableOk t) (rowFor t name) name a p (length out) live)
+next-as-sealing s t name a p out live = rw (next-live s (tableOk t) (dataRow t name) name a p (length out) live)
 
 pub next-where-spent : NextSpent
 unfolding sealRow
-next-where-spent s t name a p out spent e = next-spent s (tableOk t) (rowFor t name) name a p out e spent
+next-where-spent s t name a p out spent e = next-spent s (tableOk t) (dataRow t name) name a p out e spent
 
 -- 0 by the definition: sealing gave 0, and the session is not spent
 next-told : (s : Session) (t name a p out : List ℕ) → sealNextAnswer s t name a p out .0 ≡ 0
-    → (sealNumber (tableOk t) (rowFor t name) name (ivOf s) a (length p) (length out) ≡ 0) × (isSpent s ≡ false)
+    → (sealNumber (tableOk t) (dataRow t name) name (ivOf s) a (length p) (length out) ≡ 0) × (isSpent s ≡ false)
 unfolding sealNextRow
-next-told s t name a p out e = next-zero s (tableOk t) (rowFor t name) name a p (length out) e
+next-told s t name a p out e = next-zero s (tableOk t) (dataRow t name) name a p (length out) e
 
 pub next-seals : NextSeals
 unfolding sealRow
 next-seals s t name a p out e =
     let (number, live) = next-told s t name a p out e in
     answer-done _ _ out number
-    ∙ ap (λ (x : Answer). (0, x .1)) (sym (next-done s (tableOk t) (rowFor t name) name a p out number live))
+    ∙ ap (λ (x : Answer). (0, x .1)) (sym (next-done s (tableOk t) (dataRow t name) name a p out number live))
 
 -- an IV always leads to another session
 moved : (s : Session) → isSpent s ≡ false → after s ≡ s → ⊥
@@ -75,7 +75,7 @@ next-moves s t name a p out = refl
 
 pub next-refused-same : NextRefused
 unfolding sealNextRow
-next-refused-same s t name a p out h = rw (ne-eqb (sealNextNumber s (tableOk t) (rowFor t name) name a (length p) (length out)) 0 h)
+next-refused-same s t name a p out h = rw (ne-eqb (sealNextNumber s (tableOk t) (dataRow t name) name a (length p) (length out)) 0 h)
 
 pub next-advances : NextAdvances
 next-advances s t name a p out = (advances, (changes, changed))
@@ -125,14 +125,14 @@ iv-read u name n iv rest short few size =
     rw (fields .mode, fields .size) (part-at (front u name n) iv rest (ivAt (length name)) (modeOf u .ivSize) (length-front u name n) size)
 
 iv-written : (s : Session) (t name a p out : List ℕ) → sealNextAnswer s t name a p out .0 ≡ 0
-    → ivIn (take (sealedSize (rowFor t name) name (length p)) (sealNextAnswer s t name a p out .1)) ≡ ivOf s
+    → ivIn (take (sealedSize (dataRow t name) name (length p)) (sealNextAnswer s t name a p out .1)) ≡ ivOf s
 unfolding recordOf
 iv-written s t name a p out e =
     let (number, live) = next-told s t name a p out e in
-    let h = in-range (tableOk t) name (ivOf s) a (length p) (length out) (rowFor t name) number in
+    let h = in-range (tableOk t) name (ivOf s) a (length p) (length out) (dataRow t name) number in
     let u = useOf (h .row) in
     let F = front u name (length p) in
-    let size = sealedSize (rowFor t name) name (length p) in
+    let size = sealedSize (dataRow t name) name (length p) in
     let size-is = ap (λ (o : Option (List ℕ)). sealedSize o name (length p)) (h .has-row) in
     let fits : size ≤ length out = omega (arith, size-is, h .room-fits) in
     let short : length F + length (ivOf s) ≤ size = omega (arith, size-is, length-front u name (length p), h .iv-size) in

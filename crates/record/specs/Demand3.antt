@@ -10,7 +10,7 @@ use Prim.Native.Nat.{ℕ, _≤_}
 use lib.ListN.{length}
 use Rattle.octets.specs.Bytes.{Bytes}
 use Rattle.octets.specs.Lent.{over}
-use Rattle.keytable.specs.Table.{rowFor}
+use Rattle.keytable.specs.Table.{dataRow}
 use Rattle.record.specs.Record.{nameIn, ivIn}
 use Rattle.record.specs.Seal.{sealedSize, sealAnswer}
 use Rattle.record.specs.Open.{openAnswer}
@@ -23,7 +23,7 @@ pub record Opens (t r a out : List ℕ) (count : ℕ) (p : List ℕ) : Type 0 wh
 pub record Seals (t name iv a p r : List ℕ) : Type 0 where
   pub bytes : Bytes p
   pub row : List ℕ
-  pub has-row : rowFor t name ≡ some row
+  pub has-row : dataRow t name ≡ some row
   pub makes : (out : List ℕ) → length out ≡ sealedSize (some row) name (length p) → sealAnswer t name iv a p out ≡ (0, r)
 
 -- for any bytes as table and as record, and room for p; of a table that is not accepted neither side holds, and nothing of the header is believed

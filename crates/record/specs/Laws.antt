@@ -12,7 +12,7 @@ use Rattle.octets.specs.Lent.{over}
 use Rattle.octets.specs.Lowest.{rises}
 use Rattle.octets.specs.Unique.{Unique, UniqueBy}
 use Rattle.keytable.specs.Row.{nameMax, useOf, keyOf}
-use Rattle.keytable.specs.Table.{tableOk, rowFor}
+use Rattle.keytable.specs.Table.{tableOk, dataRow}
 use Rattle.modes.specs.Calls.{textMax}
 use Rattle.modes.specs.Modes.{namesMode, modeOf}
 use Rattle.session.specs.Iv.{isSpent, ivOf, after}
@@ -59,28 +59,28 @@ pub record InRange (ok : Bool) (found : Option (List ℕ)) (name iv a : List ℕ
 -- sealing then gives 0, and the record of the row's use and key over the front of the output; and 0 in no other case
 abbrev pub SealsInRange : Type 0
 SealsInRange =
-    (t name iv a p out : List ℕ) (h : InRange (tableOk t) (rowFor t name) name iv a (length p) (length out))
+    (t name iv a p out : List ℕ) (h : InRange (tableOk t) (dataRow t name) name iv a (length p) (length out))
     → sealAnswer t name iv a p out ≡ (0, over (recordOf (useOf (h .row)) (keyOf (h .row)) name iv a p) out)
 
 abbrev pub SealsOnlyInRange : Type 0
 SealsOnlyInRange =
-    (t name iv a p out : List ℕ) → sealAnswer t name iv a p out .0 ≡ 0 → InRange (tableOk t) (rowFor t name) name iv a (length p) (length out)
+    (t name iv a p out : List ℕ) → sealAnswer t name iv a p out .0 ≡ 0 → InRange (tableOk t) (dataRow t name) name iv a (length p) (length out)
 
 -- ---- "Between two accepted tables with the same row for a name, or both with none, the other rows change no answer for that name"
 
 abbrev pub SealOtherRows : Type 0
 SealOtherRows =
-    (t u name iv a p out : List ℕ) → tableOk t ≡ true → tableOk u ≡ true → rowFor t name ≡ rowFor u name
+    (t u name iv a p out : List ℕ) → tableOk t ≡ true → tableOk u ≡ true → dataRow t name ≡ dataRow u name
     → sealAnswer t name iv a p out ≡ sealAnswer u name iv a p out
 
 abbrev pub OpenOtherRows : Type 0
 OpenOtherRows =
-    (t u r a out : List ℕ) (count : ℕ) → tableOk t ≡ true → tableOk u ≡ true → rowFor t (nameIn r) ≡ rowFor u (nameIn r)
+    (t u r a out : List ℕ) (count : ℕ) → tableOk t ≡ true → tableOk u ≡ true → dataRow t (nameIn r) ≡ dataRow u (nameIn r)
     → openAnswer t r a out count ≡ openAnswer u r a out count
 
 abbrev pub NextOtherRows : Type 0
 NextOtherRows =
-    (s : Session) (t u name a p out : List ℕ) → tableOk t ≡ true → tableOk u ≡ true → rowFor t name ≡ rowFor u name
+    (s : Session) (t u name a p out : List ℕ) → tableOk t ≡ true → tableOk u ≡ true → dataRow t name ≡ dataRow u name
     → sealNextAnswer s t name a p out ≡ sealNextAnswer s u name a p out
 
 -- ---- what an output held before never matters, only its length: two outputs of one length get one number, and after 0 the same bytes up to
@@ -95,7 +95,7 @@ pub record Alike (size : ℕ) (out out′ : List ℕ) (x x′ : ℕ × List ℕ)
 abbrev pub SealEarlier : Type 0
 SealEarlier =
     (t name iv a p out out′ : List ℕ) → Bytes t → Bytes iv → length out ≡ length out′
-    → Alike (sealedSize (rowFor t name) name (length p)) out out′ (sealAnswer t name iv a p out) (sealAnswer t name iv a p out′)
+    → Alike (sealedSize (dataRow t name) name (length p)) out out′ (sealAnswer t name iv a p out) (sealAnswer t name iv a p out′)
 
 abbrev pub OpenEarlier : Type 0
 OpenEarlier =
@@ -108,7 +108,7 @@ NextEarlier =
     (s : Session) (t name a p out out′ : List ℕ) → Bytes t → Bytes (s .prefix) → length out ≡ length out′
     → let x = sealNextAnswer s t name a p out in
     let x′ = sealNextAnswer s t name a p out′ in
-    Alike (sealedSize (rowFor t name) name (length p)) out out′ (x .0, x .1) (x′ .0, x′ .1) × (x .2 ≡ x′ .2)
+    Alike (sealedSize (dataRow t name) name (length p)) out out′ (x .0, x .1) (x′ .0, x′ .1) × (x .2 ≡ x′ .2)
 
 -- ---- sealing with a session
 
@@ -164,7 +164,7 @@ abbrev pub call : (ℕ → Lent) → Session → ℕ → Answer
 call lent s i = sealNext (before lent s i) (lent i)
 
 abbrev pub written : (ℕ → Lent) → Session → ℕ → List ℕ
-written lent s i = take (sealedSize (rowFor (lent i .table) (lent i .name)) (lent i .name) (length (lent i .plain))) (call lent s i .1)
+written lent s i = take (sealedSize (dataRow (lent i .table) (lent i .name)) (lent i .name) (length (lent i .plain))) (call lent s i .1)
 
 -- "So one session's IVs all differ": the records of one session have different IVs, whatever was lent and whatever was refused between them
 abbrev pub RecordsDiffer : Type 0

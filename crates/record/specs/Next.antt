@@ -6,7 +6,7 @@ use mathlib.Core.List.{List, [], _∷_, _++_}
 use mathlib.Core.Option.{Option}
 use lib.ListN.{length}
 use Rattle.octets.specs.Lent.{Tests, lowest, answer}
-use Rattle.keytable.specs.Table.{tableOk, rowFor}
+use Rattle.keytable.specs.Table.{tableOk, dataRow}
 use Rattle.session.specs.Iv.{isSpent, ivOf}
 use Rattle.session.specs.Calls.{Answer, sessionAfter}
 use Rattle.session.specs.declared.Session.{Session}
@@ -29,7 +29,7 @@ sealNextRow s ok row name a p out = (
 )
 
 abbrev pub sealNextAnswer : Session → List ℕ → List ℕ → List ℕ → List ℕ → List ℕ → Answer
-sealNextAnswer s t name a p out = sealNextRow s (tableOk t) (rowFor t name) name a p out
+sealNextAnswer s t name a p out = sealNextRow s (tableOk t) (dataRow t name) name a p out
 
 -- by value the number and the session come in one struct; beside it stands the lent output
 abbrev pub sealedSays : Sealed × List ℕ → Answer

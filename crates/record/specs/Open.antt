@@ -8,7 +8,7 @@ use lib.ListN.{length}
 use lib.Dec.{eqb, ltb}
 use Rattle.octets.specs.Lent.{Tests, lowest, kept, answer}
 use Rattle.keytable.specs.Row.{keyOf}
-use Rattle.keytable.specs.Table.{tableOk, rowFor}
+use Rattle.keytable.specs.Table.{tableOk, dataRow}
 use Rattle.keytable.specs.Calls.{missing, useIn}
 use Rattle.modes.specs.Modes.{namesMode}
 use Rattle.record.specs.Record.{modeFor, modeIn, countIn, nameSize, layoutOk, frontIn, nameIn, ivIn, textIn, tagIn}
@@ -55,4 +55,4 @@ openRow ok row r a out count =
     (answer (openNumber ok row r a (length out)) (plaintextIn row r) out, kept (openNumber ok row r a (length out)) (countIn r) count)
 
 abbrev pub openAnswer : List ℕ → List ℕ → List ℕ → List ℕ → ℕ → (ℕ × List ℕ) × ℕ
-openAnswer t r a out count = openRow (tableOk t) (rowFor t (nameIn r)) r a out count
+openAnswer t r a out count = openRow (tableOk t) (dataRow t (nameIn r)) r a out count

@@ -8,14 +8,12 @@ use lib.ListN.{length}
 use lib.Dec.{eqb, ltb}
 use Rattle.octets.specs.Lent.{Tests, isNot, lowest, kept, answer}
 use Rattle.keytable.specs.Row.{useOf, keyOf}
-use Rattle.keytable.specs.Table.{tableOk, rowFor, rowAt}
+use Rattle.keytable.specs.Table.{tableOk, dataRow, rowAt}
 use Rattle.keytable.specs.Calls.{missing, useIn}
 use Rattle.modes.specs.Mode.{sealed}
 use Rattle.modes.specs.Modes.{namesMode, modeOf}
 use Rattle.record.specs.Record.{endAt, front}
 use Rattle.record.specs.Read.{passes}
-use Rattle.keytable.specs.declared.Found.{Found}
-use Rattle.keytable.specs.declared.Found.the-variants.{At as FoundAt, Nothing}
 use Rattle.record.specs.declared.sealing.Ready.{Ready}
 use Rattle.record.specs.declared.sealing.Ready.the-variants.{At, Refused}
 
@@ -50,11 +48,6 @@ sealTests ok row name iv a n room =
 unfoldable pub sealNumber : Bool → Option (List ℕ) → List ℕ → List ℕ → List ℕ → ℕ → ℕ → ℕ
 sealNumber ok row name iv a n room = lowest (sealTests ok row name iv a n room)
 
--- the row that a lookup found
-abbrev pub rowFound : List ℕ → Found → Option (List ℕ)
-rowFound t (FoundAt i) = some (rowAt t i)
-rowFound t Nothing = none
-
 -- the tests by themselves: each case's number, and the row that comes with 0
 abbrev pub readyNumber : Ready → ℕ
 readyNumber (At i) = 0
@@ -68,11 +61,11 @@ unfoldable pub readyBy : Bool → Option (List ℕ) → List ℕ → List ℕ �
 readyBy ok row name iv a n room = (sealNumber ok row name iv a n room, kept (sealNumber ok row name iv a n room) row none)
 
 abbrev pub readyAnswer : List ℕ → List ℕ → List ℕ → List ℕ → ℕ → ℕ → ℕ × Option (List ℕ)
-readyAnswer t name iv a n room = readyBy (tableOk t) (rowFor t name) name iv a n room
+readyAnswer t name iv a n room = readyBy (tableOk t) (dataRow t name) name iv a n room
 
 -- by whether the table is accepted and the row that matched
 unfoldable pub sealRow : Bool → Option (List ℕ) → List ℕ → List ℕ → List ℕ → List ℕ → List ℕ → ℕ × List ℕ
 sealRow ok row name iv a p out = answer (sealNumber ok row name iv a (length p) (length out)) (recordBy row name iv a p) out
 
 abbrev pub sealAnswer : List ℕ → List ℕ → List ℕ → List ℕ → List ℕ → List ℕ → ℕ × List ℕ
-sealAnswer t name iv a p out = sealRow (tableOk t) (rowFor t name) name iv a p out
+sealAnswer t name iv a p out = sealRow (tableOk t) (dataRow t name) name iv a p out

@@ -20,12 +20,13 @@ ghost use Prim.Native.Nat.{_≤_};
 ghost use lib.ListN.{length};
 ghost use Rattle.octets.specs.Lent.{over};
 ghost use Rattle.keytable.specs.Row.{nameMax, keySize};
-ghost use Rattle.keytable.specs.Table.{rowFor, rowAt};
+ghost use Rattle.keytable.specs.Table.{dataRow, rowAt};
 ghost use Rattle.keytable.specs.Calls.{useIn};
+ghost use Rattle.keytable.specs.Find.{rowFound};
 ghost use Rattle.modes.specs.Calls.{textMax};
 ghost use Rattle.modes.specs.Modes.{modeOf};
 ghost use Rattle.record.specs.Record.{endAt};
-ghost use Rattle.record.specs.Seal.{callersMax, recordOf, recordBy, rowFound, readyNumber, readyRow, readyAnswer, sealAnswer};
+ghost use Rattle.record.specs.Seal.{callersMax, recordOf, recordBy, readyNumber, readyRow, readyAnswer, sealAnswer};
 
 // What the tests of sealing find: the place of the name's row, or the lowest number that applies.
 pub(crate) enum Ready {
@@ -50,10 +51,10 @@ fn fill(u: u8, key: &[u8], name: &[u8], iv: &[u8], aad: &[u8], plain: &[u8], out
 fn use_found(table: &[u8], f: Found) -> u8
     ensures { λ u. ⌜ u ≡ useIn (rowFound (now (table .entry)) f) ⌝ }
 {
-    match f {
-        Found::At(at) => use_at(table, at),
-        Found::Nothing => 0,
-    }
+    let Found::At(at) = f else {
+        return 0;
+    };
+    use_at(table, at)
 }
 
 // Every test of sealing n bytes into so much room.
@@ -105,7 +106,7 @@ pub(crate) fn write(
     out: &mut [u8],
 )
     requires { ⌜ readyAnswer (now table) (now name) (now iv) (now aad) (length (now plain)) (length (now out)) ≡ (0, some (rowAt (now table) at)) ⌝ }
-    ensures { λ _. ⌜ now (out .exit) ≡ over (recordBy (rowFor (now (table .entry)) (now (name .entry))) (now (name .entry)) (now (iv .entry)) (now (aad .entry)) (now (plain .entry))) (now (out .entry)) ⌝ }
+    ensures { λ _. ⌜ now (out .exit) ≡ over (recordBy (dataRow (now (table .entry)) (now (name .entry))) (now (name .entry)) (now (iv .entry)) (now (aad .entry)) (now (plain .entry))) (now (out .entry)) ⌝ }
 {
     let u = use_at(table, at);
     fill(u, key_at(table, at), name, iv, aad, plain, out);

@@ -2,17 +2,18 @@
 -- Assumes nothing.
 use mathlib.Core.Path.{_≡_, refl, sym, ap, ap₂, _∙_}
 use mathlib.Core.Bool.{Bool, true, false, not}
-use mathlib.Core.List.{List, [], _∷_, _++_}
+use mathlib.Core.List.{List, _++_}
 use Prim.Native.Nat.{ℕ, _+_}
 use native.Mathlib.Omega.{arith}
 use lib.Dec.{eqb, ltb}
 use lib.ListN.{length, getD, replicate}
 use borrow.Author.Tests.{eq-eqb, ne-eqb}
 use Rattle.octets.specs.Values.{values}
-use Rattle.octets.specs.Lent.{when, lowest, over}
+use Rattle.octets.specs.Lent.{when, over}
 use Rattle.octets.proofs.Values.{values-list}
+use Rattle.octets.proofs.Lent.{none-applies}
 use Rattle.session.specs.Iv.{ivSize, lastField, withFields, started, isSpent, ivOf, after}
-use Rattle.session.specs.Calls.{Answer, sessionAfter, advanceNumber, advanceAnswer, issueNumber, issueAnswer}
+use Rattle.session.specs.Calls.{Answer, sessionAfter, advanceTests, advanceNumber, advanceAnswer, issueTests, issueNumber, issueAnswer}
 use Rattle.session.specs.declared.Session.{Session}
 
 -- ---- the IV
@@ -99,16 +100,10 @@ pub issue-moves : (s : Session) (out : List ℕ) → issueAnswer s out .2 ≡ se
 unfolding issueAnswer
 issue-moves s out = refl
 
--- the lowest of 5 and 10 is neither
-done-live : (short full : Bool) → lowest ((5, short) ∷ (10, full) ∷ []) ≡ 0 → (short ≡ false) × (full ≡ false)
-done-live false false e = (refl, refl)
-done-live false true e = absurd (omega (arith, e))
-done-live true full e = absurd (omega (arith, e))
-
 pub advance-live : (s : Session) → advanceAnswer s .0 ≡ 0 → isSpent s ≡ false
 unfolding advanceAnswer advanceNumber
-advance-live s e = done-live false (isSpent s) e .1
+advance-live s e = none-applies (advanceTests s) 0 refl e
 
 pub issue-live : (s : Session) (out : List ℕ) → issueAnswer s out .0 ≡ 0 → (ltb (length out) ivSize ≡ false) × (isSpent s ≡ false)
 unfolding issueAnswer issueNumber
-issue-live s out e = done-live (ltb (length out) ivSize) (isSpent s) e
+issue-live s out e = (none-applies (issueTests s out) 0 refl e, none-applies (issueTests s out) 1 refl e)

@@ -11,11 +11,12 @@ use borrow.Author.Tests.{le-ltb, ltb-false, ne-eqb}
 use Rattle.octets.specs.BigEndian.{be}
 use Rattle.octets.specs.Lent.{over}
 use Rattle.octets.proofs.BigEndian.{length-be}
-use Rattle.octets.proofs.Lent.{over-fits, over-whole, one-answer}
+use Rattle.octets.proofs.Lent.{over-fits, over-whole}
+use Rattle.octets.proofs.Unique.{unique, unique-by}
 use Rattle.session.specs.Iv.{prefixSize, fieldSize, ivSize, withFields, started, isSpent, ivOf, after}
-use Rattle.session.specs.Calls.{Answer, advanceNumber, advanceAnswer, issueNumber, issueAnswer}
+use Rattle.session.specs.Calls.{Answer, advanceNumber, advanceAnswer, issuedSays, issueNumber, issueAnswer}
 use Rattle.session.specs.Laws.{Run, advanced, AdvanceGives, AdvanceEnds, AdvancesDiffer, held, call, IssueGives, IssueEnds, IssuesDiffer, IssueRefused, SpentGives}
-use Rattle.session.specs.Laws.{nearEnd, LastTwo, LastTwoHeld, StartUnique, AdvanceUnique, IssueUnique}
+use Rattle.session.specs.Laws.{nearEnd, LastTwo, LastTwoHeld, AdvanceTestsRise, IssueTestsRise, StartUnique, AdvanceUnique, IssueUnique}
 use Rattle.session.specs.declared.Session.{Session}
 use Rattle.session.proofs.Calls.{advance-spent, advance-done, advance-moves, advance-live, issue-spent, issue-done, issue-moves, issue-live}
 use Rattle.session.proofs.Runs.{ended, run-at, run-ends, run-prefix, run-differs}
@@ -146,14 +147,21 @@ last-two-held prefix a b c size ha hb hc =
       issue-spent (advanced (nearEnd prefix) 2) c (le-ltb (length c) ivSize (omega (arith, hc))) refl,
     )
 
+-- ---- the lowest
+
+pub advance-tests-rise : AdvanceTestsRise
+advance-tests-rise s = refl
+
+pub issue-tests-rise : IssueTestsRise
+issue-tests-rise s out = refl
+
 -- ---- one answer
 
 pub start-unique : StartUnique
-start-unique prefix start a b ea eb = ea ∙ sym eb
+start-unique prefix start = unique (started prefix start)
 
 pub advance-unique : AdvanceUnique
-advance-unique s a b ea eb =
-    ap (λ (t : Answer). record { number = t .0; iv = t .1; session = t .2 }) (one-answer ea eb)
+advance-unique s = unique-by issuedSays (λ (t : Answer). record { number = t .0; iv = t .1; session = t .2 }) (λ r. refl) (advanceAnswer s)
 
 pub issue-unique : IssueUnique
-issue-unique s out a b ea eb = one-answer ea eb
+issue-unique s out = unique (issueAnswer s out)

@@ -2,11 +2,12 @@
 -- Assumes nothing.
 use Prim.Native.Nat.{ℕ}
 use mathlib.Core.List.{List, [], _∷_}
-use lib.Dec.{eqb, ltb}
+use lib.Dec.{ltb}
 use lib.ListN.{length, replicate}
-use Rattle.octets.specs.Lent.{when, lowest, answer}
+use Rattle.octets.specs.Lent.{Tests, lowest, kept, answer}
 use Rattle.session.specs.Iv.{ivSize, started, isSpent, ivOf, after}
 use Rattle.session.specs.declared.Session.{Session}
+use Rattle.session.specs.declared.Issued.{Issued}
 
 -- a number, the bytes of the IV or those lent for it, and the session
 abbrev pub Answer : Type 0
@@ -14,25 +15,34 @@ Answer = ℕ × List ℕ × Session
 
 -- "After any but 0, each lent buffer and session is unchanged": the session after a call that gave n
 abbrev pub sessionAfter : ℕ → Session → Session
-sessionAfter n s = when (eqb n 0) (after s) s
+sessionAfter n s = kept n (after s) s
 
 -- ---- a start is never refused
 
 abbrev pub startAnswer : List ℕ → ℕ → ℕ × Session
 startAnswer prefix start = (0, started prefix start)
 
--- ---- by value: "10: IV session spent"; zeros stand for the IV then
+-- ---- by value: 10, "IV session spent"; zeros stand for the IV then
+
+abbrev pub advanceTests : Session → Tests
+advanceTests s = (10, isSpent s) ∷ []
 
 unfoldable pub advanceNumber : Session → ℕ
-advanceNumber s = lowest ((10, isSpent s) ∷ [])
+advanceNumber s = lowest (advanceTests s)
 
 unfoldable pub advanceAnswer : Session → Answer
-advanceAnswer s = (advanceNumber s, when (eqb (advanceNumber s) 0) (ivOf s) (replicate ivSize 0), sessionAfter (advanceNumber s) s)
+advanceAnswer s = (advanceNumber s, kept (advanceNumber s) (ivOf s) (replicate ivSize 0), sessionAfter (advanceNumber s) s)
 
--- ---- into lent bytes: "5: output shorter than the result", then 10
+abbrev pub issuedSays : Issued → Answer
+issuedSays r = (r .number, r .iv, r .session)
+
+-- ---- into lent bytes: 5, "output shorter than the result", then 10
+
+abbrev pub issueTests : Session → List ℕ → Tests
+issueTests s out = (5, ltb (length out) ivSize) ∷ (10, isSpent s) ∷ []
 
 unfoldable pub issueNumber : Session → List ℕ → ℕ
-issueNumber s out = lowest ((5, ltb (length out) ivSize) ∷ (10, isSpent s) ∷ [])
+issueNumber s out = lowest (issueTests s out)
 
 unfoldable pub issueAnswer : Session → List ℕ → Answer
 issueAnswer s out = (issueNumber s out, answer (issueNumber s out) (ivOf s) out .1, sessionAfter (issueNumber s out) s)

@@ -1,15 +1,16 @@
 -- What a session promises, as statements; proofs/Laws.antt proves each.
 -- Assumes nothing.
 use mathlib.Core.Path.{_≡_}
-use mathlib.Core.Bool.{false}
+use mathlib.Core.Bool.{true, false}
 use mathlib.Core.List.{List, [], _∷_, _++_}
 use Prim.Native.Nat.{ℕ, zero, suc, _+_, _-_, _^_, _≤_, _<_}
 use lib.ListN.{length, take, drop, replicate}
 use Rattle.octets.specs.BigEndian.{be}
+use Rattle.octets.specs.Lowest.{rises}
+use Rattle.octets.specs.Unique.{UniqueBy, Unique}
 use Rattle.session.specs.Iv.{prefixSize, fieldSize, ivSize, withFields, started, isSpent, ivOf}
-use Rattle.session.specs.Calls.{Answer, sessionAfter, advanceAnswer, issueAnswer}
+use Rattle.session.specs.Calls.{Answer, sessionAfter, advanceTests, advanceAnswer, issuedSays, issueTests, issueAnswer}
 use Rattle.session.specs.declared.Session.{Session}
-use Rattle.session.specs.declared.Issued.{Issued}
 
 -- ---- any calls on one session, one after another
 
@@ -110,14 +111,21 @@ LastTwoHeld =
     × (issueAnswer (advanced (nearEnd prefix) 1) b ≡ (0, prefix ++ lastBut 0xff, advanced (nearEnd prefix) 2))
     × (issueAnswer (advanced (nearEnd prefix) 2) c ≡ (10, c, advanced (nearEnd prefix) 2))
 
+-- ---- "The lowest that applies is given, and no other."
+
+abbrev pub AdvanceTestsRise : Type 0
+AdvanceTestsRise = (s : Session) → rises (advanceTests s) ≡ true
+
+abbrev pub IssueTestsRise : Type 0
+IssueTestsRise = (s : Session) (out : List ℕ) → rises (issueTests s out) ≡ true
+
 -- ---- for each input one answer, and one state of what is lent
 
 abbrev pub StartUnique : Type 0
-StartUnique = (prefix : List ℕ) (start : ℕ) (a b : Session) → a ≡ started prefix start → b ≡ started prefix start → a ≡ b
+StartUnique = (prefix : List ℕ) (start : ℕ) → Unique (started prefix start)
 
 abbrev pub AdvanceUnique : Type 0
-AdvanceUnique =
-    (s : Session) (a b : Issued) → advanceAnswer s ≡ (a .number, a .iv, a .session) → advanceAnswer s ≡ (b .number, b .iv, b .session) → a ≡ b
+AdvanceUnique = (s : Session) → UniqueBy issuedSays (advanceAnswer s)
 
 abbrev pub IssueUnique : Type 0
-IssueUnique = (s : Session) (out : List ℕ) (a b : Answer) → issueAnswer s out ≡ a → issueAnswer s out ≡ b → a ≡ b
+IssueUnique = (s : Session) (out : List ℕ) → Unique (issueAnswer s out)

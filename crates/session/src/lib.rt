@@ -6,7 +6,7 @@ ghost use mathlib.Core.Path.{_≡_};
 ghost use mathlib.Core.List.{_++_};
 ghost use Rattle.octets.specs.BigEndian.{be};
 ghost use Rattle.session.specs.Iv.{prefixSize, fieldSize, withFields, started, after};
-ghost use Rattle.session.specs.Calls.{advanceAnswer, issueAnswer};
+ghost use Rattle.session.specs.Calls.{advanceAnswer, issuedSays, issueAnswer};
 
 // The fixed field, the next invocation field, and whether the last IV has been given: any value of `spent` but 0 says so.
 #[repr(C)]
@@ -91,7 +91,7 @@ fn after_iv(prefix: [u8; 4], n: u64) -> Session
 
 // The next IV by value and the session after it; or number 10 with zeros and the session as it was.
 pub fn advance(s: Session) -> Issued
-    ensures { λ r. ⌜ advanceAnswer s ≡ (r .number, r .iv, r .session) ⌝ }
+    ensures { λ r. ⌜ advanceAnswer s ≡ issuedSays r ⌝ }
 {
     let prefix = s.prefix;
     let n = s.next;

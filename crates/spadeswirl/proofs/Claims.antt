@@ -13,7 +13,7 @@ use Rattle.modes.specs.Ccm.{flags, firstBlock, dataBlocks}
 use Rattle.modes.proofs.Laws.{lengths-25-3, modes-permit}
 use Rattle.aes_field.specs.Field.{xtime, times, inverse, affine, sbox}
 use Rattle.keytable.specs.Row.{nameMax}
-use Rattle.keytable.specs.Table.{tableOk, rowFor}
+use Rattle.keytable.specs.Table.{tableOk, dataRow}
 use Rattle.keytable.proofs.Laws.{empty-table}
 use Rattle.session.proofs.Laws.{last-two, last-two-held}
 use Rattle.descriptors.proofs.Laws.{label-claim}
@@ -57,7 +57,7 @@ greatest-record = (refl, refl)
 
 one-byte-more : OneByteMore
 one-byte-more t rest a out count u k good mode-ok named short whole =
-    open-four (tableOk t) (rowFor t (nameIn r)) r a out count good (kept-layout r kept) (ap namesMode mode-is ∙ mode-ok) too-long
+    open-four (tableOk t) (dataRow t (nameIn r)) r a out count good (kept-layout r kept) (ap namesMode mode-is ∙ mode-ok) too-long
   where
     r : List ℕ
     r = header u k 1048577 ++ rest

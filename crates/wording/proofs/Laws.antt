@@ -12,9 +12,9 @@ use Rattle.octets.specs.Lent.{over}
 use Rattle.octets.specs.Tests.{all}
 use Rattle.octets.proofs.Bytes.{bytes-head, bytes-tail}
 use Rattle.octets.proofs.Values.{cons-equal}
-use Rattle.octets.proofs.Lent.{one-answer}
-use Rattle.wording.specs.Hex.{isDigit, digitOf, isHex, hexByte, hexBytes, digitsOf}
-use Rattle.wording.specs.Laws.{DigitsLength, ThereAndBack, ReadUnique, WriteUnique}
+use Rattle.octets.proofs.Unique.{unique}
+use Rattle.wording.specs.Hex.{isDigit, digitOf, isHex, hexByte, hexBytes, digitsOf, hexRead, hexWrite}
+use Rattle.wording.specs.Laws.{DigitsLength, ThereAndBack, ReadTestsRise, WriteTestsRise, ReadUnique, WriteUnique}
 use Rattle.wording.proofs.Digits.{digit-is, digit-counts, length-digitsOf, read-done}
 
 pub digits-length : DigitsLength
@@ -45,10 +45,18 @@ pub there-and-back : ThereAndBack
 there-and-back s out h room =
     read-done (digitsOf s) out (digits-hex h) (omega (arith, length-digitsOf s)) ∙ ap (λ (t : List ℕ). (0, over t out)) (bytes-back h)
 
+-- ---- the lowest
+
+pub read-tests-rise : ReadTestsRise
+read-tests-rise word out = refl
+
+pub write-tests-rise : WriteTestsRise
+write-tests-rise s out = refl
+
 -- ---- one answer
 
 pub read-unique : ReadUnique
-read-unique word out a b p q = one-answer p q
+read-unique word out = unique (hexRead word out)
 
 pub write-unique : WriteUnique
-write-unique s out a b p q = one-answer p q
+write-unique s out = unique (hexWrite s out)

@@ -8,9 +8,11 @@ use native.Mathlib.Omega.{arith}
 use lib.Dec.{leb}
 use lib.ListN.{length, getD, replicate}
 use borrow.Author.Tests.{leb-true}
-use Rattle.octets.proofs.Lent.{length-over, one-answer}
+use Rattle.octets.proofs.Lent.{length-over}
+use Rattle.octets.proofs.Unique.{unique-by}
+use Rattle.wording.specs.declared.meaning.Line.{Line}
 use Rattle.octets.proofs.Tests.{and-left, and-right}
-use Rattle.wording.specs.Meaning.{meanings, noMeaning, meaningOf, lineMax}
+use Rattle.wording.specs.Meaning.{meanings, noMeaning, meaningOf, lineMax, lineOf}
 use Rattle.wording.specs.MeaningLaws.{LineFits, LineUnique}
 
 abbrev within : List ℕ → Bool
@@ -36,4 +38,5 @@ line-fits n size bytes e = (
 )
 
 pub line-unique : LineUnique
-line-unique n a b = one-answer
+line-unique n =
+    unique-by (λ (l : Line). (l .size, l .bytes)) (λ (a : ℕ × List ℕ). record { size = a .0; bytes = a .1 }) (λ l. refl) (lineOf (meaningOf n))

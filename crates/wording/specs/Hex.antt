@@ -5,7 +5,7 @@ use mathlib.Core.Bool.{Bool, not, _&&_, _||_}
 use mathlib.Core.List.{List, [], _∷_}
 use lib.Dec.{eqb, leb, ltb}
 use lib.ListN.{length}
-use Rattle.octets.specs.Lent.{when, lowest, answer}
+use Rattle.octets.specs.Lent.{when, Tests, lowest, answer}
 use Rattle.octets.specs.Tests.{all}
 
 abbrev pub between : ℕ → ℕ → ℕ → Bool
@@ -41,8 +41,14 @@ digitsOf (b ∷ s) = digitOf (b / 16) ∷ digitOf (b % 16) ∷ digitsOf s
 
 -- ---- the calls: their numbers, and the lent output after them
 
+abbrev pub readTests : List ℕ → List ℕ → Tests
+readTests word out = (2, not (isHex word)) ∷ (5, ltb (length out) (length word / 2)) ∷ []
+
 unfoldable pub hexRead : List ℕ → List ℕ → ℕ × List ℕ
-hexRead word out = answer (lowest ((2, not (isHex word)) ∷ (5, ltb (length out) (length word / 2)) ∷ [])) (hexBytes word) out
+hexRead word out = answer (lowest (readTests word out)) (hexBytes word) out
+
+abbrev pub writeTests : List ℕ → List ℕ → Tests
+writeTests s out = (5, ltb (length out) (2 * length s)) ∷ []
 
 unfoldable pub hexWrite : List ℕ → List ℕ → ℕ × List ℕ
-hexWrite s out = answer (lowest ((5, ltb (length out) (2 * length s)) ∷ [])) (digitsOf s) out
+hexWrite s out = answer (lowest (writeTests s out)) (digitsOf s) out

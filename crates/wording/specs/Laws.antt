@@ -2,11 +2,14 @@
 -- Assumes nothing.
 use mathlib.Core.Path.{_≡_}
 use Prim.Native.Nat.{ℕ, _*_, _≤_}
+use mathlib.Core.Bool.{true}
 use mathlib.Core.List.{List}
 use lib.ListN.{length}
 use Rattle.octets.specs.Bytes.{Bytes}
 use Rattle.octets.specs.Lent.{over}
-use Rattle.wording.specs.Hex.{digitsOf, hexRead, hexWrite}
+use Rattle.octets.specs.Lowest.{rises}
+use Rattle.octets.specs.Unique.{Unique}
+use Rattle.wording.specs.Hex.{digitsOf, readTests, hexRead, writeTests, hexWrite}
 
 -- two digits for each byte
 abbrev pub DigitsLength : Type 0
@@ -16,9 +19,16 @@ DigitsLength = (s : List ℕ) → length (digitsOf s) ≡ 2 * length s
 abbrev pub ThereAndBack : Type 0
 ThereAndBack = (s out : List ℕ) → Bytes s → length s ≤ length out → hexRead (digitsOf s) out ≡ (0, over s out)
 
+-- the numbers of both calls rise
+abbrev pub ReadTestsRise : Type 0
+ReadTestsRise = (word out : List ℕ) → rises (readTests word out) ≡ true
+
+abbrev pub WriteTestsRise : Type 0
+WriteTestsRise = (s out : List ℕ) → rises (writeTests s out) ≡ true
+
 -- for each input one number and one state of the output
 abbrev pub ReadUnique : Type 0
-ReadUnique = (word out : List ℕ) (a b : ℕ × List ℕ) → hexRead word out ≡ a → hexRead word out ≡ b → a ≡ b
+ReadUnique = (word out : List ℕ) → Unique (hexRead word out)
 
 abbrev pub WriteUnique : Type 0
-WriteUnique = (s out : List ℕ) (a b : ℕ × List ℕ) → hexWrite s out ≡ a → hexWrite s out ≡ b → a ≡ b
+WriteUnique = (s out : List ℕ) → Unique (hexWrite s out)

@@ -4,6 +4,8 @@ use mathlib.Core.Path.{_≡_}
 use mathlib.Core.List.{List}
 use Prim.Native.Nat.{ℕ, _≤_}
 use lib.ListN.{length}
+use Rattle.octets.specs.Unique.{UniqueBy}
+use Rattle.wording.specs.declared.meaning.Line.{Line}
 use Rattle.wording.specs.Meaning.{meaningOf, lineMax, lineOf}
 
 -- each line lies whole within its room
@@ -12,4 +14,4 @@ LineFits = (n size : ℕ) (bytes : List ℕ) → lineOf (meaningOf n) ≡ (size,
 
 -- for each number one line
 abbrev pub LineUnique : Type 0
-LineUnique = (n : ℕ) (a b : ℕ × List ℕ) → lineOf (meaningOf n) ≡ a → lineOf (meaningOf n) ≡ b → a ≡ b
+LineUnique = (n : ℕ) → UniqueBy (λ (l : Line). (l .size, l .bytes)) (lineOf (meaningOf n))

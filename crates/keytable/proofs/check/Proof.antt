@@ -36,9 +36,7 @@ returns-2 : tie.Need-returns-2
 returns-2 c = sym (table-refused _ 1 (sym (c .before .rows-ok .ensures) ∙ not-true _ (c .if2 .taken)))
 
 names-differ-requires : tie.Need-names-differ-requires
-names-differ-requires c κs =
-    let (total, counted) = count (c .before .before) in
-    (total, counted, rows-kept c)
+names-differ-requires c κs = count (c .before .before)
 
 returns-3 : tie.Need-returns-3
 returns-3 c = sym (table-refused _ 2 (sym (c .before .names-differ .ensures) ∙ not-true _ (c .if3 .taken)))

@@ -7,10 +7,9 @@ use native.Mathlib.Omega.{arith}
 use borrow.Author.Needs.{needs}
 use borrow.Author.Tests.{not-true, not-false}
 use Rattle.keytable.specs.Table.{rowPlace, headOk}
-use Rattle.keytable.specs.Calls.{placeSays}
+use Rattle.keytable.specs.Find.{foundSays}
 use Rattle.keytable.proofs.Accepted.{head-total}
-use Rattle.keytable.proofs.Lookup.{placeOf-looked}
-use Rattle.keytable.proofs.Calls.{place-refused, place-long}
+use Rattle.keytable.proofs.Lookup.{placeOf-broken, placeOf-long, placeOf-looked}
 use Rattle.keytable.proofs.find.Statement.{statement}
 use Rattle.keytable.proofs.find.Tie as tie
 
@@ -18,20 +17,20 @@ head : (c : tie.Else1) → headOk (c .before .before .before .before .args .t .n
 head c = sym (c .before .head-ok .ensures) ∙ not-false _ (c .if1 .left)
 
 returns : tie.Need-returns
-returns c = ap placeSays (sym (place-refused _ _ (sym (c .before .head-ok .ensures) ∙ not-true _ (c .if1 .taken))))
+returns c = ap foundSays (sym (placeOf-broken _ _ (sym (c .before .head-ok .ensures) ∙ not-true _ (c .if1 .taken))))
 
 returns-2 : tie.Need-returns-2
-returns-2 c = ap placeSays (sym (place-long _ _ (head (c .before)) (c .if2 .taken)))
+returns-2 c = ap foundSays (sym (placeOf-long _ _ (head (c .before)) (c .if2 .taken)))
 
 find-from-requires : tie.Need-find-from-requires
 find-from-requires c κs =
     let total = head-total _ (head (c .before .before)) ∙ ap rowPlace (sym (c .read16 .ensures .0)) in
-    (total, c .read16 .ensures .0, omega arith, c .before .if2 .left)
+    (total, c .read16 .ensures .0, omega arith)
 
 returns-3 : tie.Need-returns-3
 returns-3 c =
     let past = c .before .before in
-    c .find-from .ensures ∙ ap placeSays (sym (placeOf-looked _ _ (head (past .before)) (past .if2 .left)))
+    c .find-from .ensures ∙ ap foundSays (sym (placeOf-looked _ _ (head (past .before)) (past .if2 .left)))
 
 pub find-spec : {M : Type 1} → statement M
 find-spec =

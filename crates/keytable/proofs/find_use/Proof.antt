@@ -9,8 +9,8 @@ use lib.Dec.{eqb, ltb}
 use lib.ListN.{length}
 use Rattle.keytable.specs.Row.{nameMax}
 use Rattle.keytable.specs.Table.{tableOk}
-use Rattle.keytable.proofs.Accepted.{accepted-head}
-use Rattle.keytable.proofs.Calls.{rows-accepted, broken-refused, found-row, found-none, use-one, use-two, use-four, use-six, use-done}
+use Rattle.keytable.proofs.Calls.{rows-accepted, broken-refused, use-one, use-two, use-four, use-six, use-done}
+use Rattle.keytable.proofs.RowFound.{no-row, the-row}
 use Rattle.keytable.proofs.find_use.Statement.{statement}
 use Rattle.keytable.proofs.find_use.Tie as tie
 
@@ -35,9 +35,9 @@ returns-3 c = use-four _ _ _ _ (accepted (c .before .before)) (given (c .before)
 
 returns-4 : tie.Need-returns-4
 returns-4 c =
-    let past = c .before .before .before in
+    let past = c .before .before in
     let ok = accepted (past .before .before) in
-    let nowhere = found-none _ _ _ (accepted-head _ ok) (past .if2 .left) (c .before .before .find .ensures) (c .enum-told3 .given .1) in
+    let nowhere = no-row _ _ (c .before .find .result) ok (c .before .find .ensures) (c .match2 .keys2) in
     use-six _ _ _ _ ok (given (past .before)) (short past) nowhere
 
 returns-5 : tie.Need-returns-5
@@ -46,7 +46,7 @@ returns-5 c =
     let at-find = at-place .before .before in
     let past = at-find .before in
     let ok = accepted (past .before .before) in
-    let (row, within) = found-row _ _ _ (accepted-head _ ok) (past .if2 .left) (at-find .find .ensures) _ (at-place .at .given .1) in
+    let row = the-row _ _ _ ok (at-find .find .ensures) _ (at-place .at .given .1) in
     use-done _ _ _ _ _ ok (given (past .before)) (short past) row ∙ ap (λ (u : ℕ). (0, u)) (sym (c .use-at .ensures))
 
 pub find-use-spec : {M : Type 1} → statement M
@@ -60,7 +60,6 @@ find-use-spec =
     returns-2
     returns-3
     (λ c κs. search needs)
-    (λ c. search needs)
     (λ c. search needs)
     returns-4
     (λ c κs. search needs)

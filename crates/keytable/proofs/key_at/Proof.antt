@@ -1,18 +1,13 @@
--- `keytable::key_at` meets its contract: the row has its length, or is empty.
+-- `keytable::key_at` meets its contract: the key's part of the row.
 -- Assumes nothing.
-use mathlib.Core.Path.{sym, ap, _∙_}
+use mathlib.Core.Path.{ap, _∙_}
 use borrow.Author.Needs.{needs}
-use Rattle.keytable.specs.Row.{keyOf}
-use Rattle.keytable.proofs.Lookup.{rowAt-short, key-past}
+use Rattle.keytable.specs.Row.{keyIn}
 use Rattle.keytable.proofs.key_at.Statement.{statement}
 use Rattle.keytable.proofs.key_at.Tie as tie
 
 returns : tie.Need-returns
-returns c =
-    c .before .row-at .ensures ∙ sym (key-past _ (rowAt-short _ _ (rw (c .before .row-at .ensures) at (c .if1 .taken))))
-
-returns-2 : tie.Need-returns-2
-returns-2 c = c .part .ensures .0 ∙ ap keyOf (c .before .before .row-at .ensures)
+returns c = c .cut .ensures ∙ ap keyIn (c .before .row-at .ensures)
 
 pub key-at-spec : {M : Type 1} → statement M
-key-at-spec = tie.close (tie.spec (λ c κs. search needs) returns (λ c κs. search needs) returns-2)
+key-at-spec = tie.close (tie.spec (λ c κs. search needs) (λ c κs. search needs) returns)

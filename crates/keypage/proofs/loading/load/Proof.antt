@@ -5,16 +5,15 @@ use mathlib.Core.Bool.{Bool, true, not}
 use mathlib.Core.List.{List}
 use Prim.Native.Nat.{ℕ}
 use borrow.Author.Tests.{lt-ltb, le-ltb}
-use lib.Dec.{ltb}
-use lib.ListN.{length}
 use Rattle.octets.proofs.Tests.{or-right}
-use Rattle.keytable.specs.Table.{tableOk, rowFor}
+use Rattle.keytable.specs.Table.{tableOk}
 use Rattle.keytable.proofs.Calls.{rows-accepted, broken-refused}
-use Rattle.keypage.specs.Page.{pageMax, algorithmIn, formatIn, keyPart, fieldsOk}
-use Rattle.keypage.specs.KeyPart.{partRefused, partLong, nameFor}
+use Rattle.keypage.specs.Page.{algorithmIn, formatIn, keyPart, fieldsOk}
+use Rattle.keypage.specs.KeyPart.{partRefused}
 use Rattle.keypage.specs.Read.{readNumber}
+use Rattle.keypage.specs.Load.{rowNamed, partAnswer}
 use Rattle.keypage.proofs.ReadNumbers.{accepted, list-good}
-use Rattle.keypage.proofs.LoadNumbers.{loaded, load-one, load-unread, load-five, load-refused, load-zero}
+use Rattle.keypage.proofs.LoadNumbers.{load-one, load-unread, load-five, load-refused, load-zero}
 use borrow.Author.Needs.{needs}
 use Rattle.keypage.proofs.loading.load.Statement.{statement}
 use Rattle.keypage.proofs.loading.load.Tie as tie
@@ -38,8 +37,8 @@ of-its-part c test = ap₂ test (c .before .read82 .ensures .0) (c .key-part .en
 
 -- and what was loaded from it
 of-its-page : (c : tie.After-key-part) (z : ℕ × List ℕ) → let a = start (c .before .before .before .before .before .before) .args in
-    loaded (rowFor (a .table .now) (nameFor (c .before .read82 .result) (c .key-part .result .now))) (c .before .before .read8 .result) (c .before .read82 .result) (c .key-part .result .now) (a .out .now) ≡ z
-    → loaded (rowFor (a .table .now) (nameFor (formatIn (a .p .now)) (keyPart (a .p .now)))) (algorithmIn (a .p .now)) (formatIn (a .p .now)) (keyPart (a .p .now)) (a .out .now) ≡ z
+    partAnswer (rowNamed (a .table .now) (c .before .read82 .result) (c .key-part .result .now)) (c .before .before .read8 .result) (c .before .read82 .result) (c .key-part .result .now) (a .out .now) ≡ z
+    → partAnswer (rowNamed (a .table .now) (formatIn (a .p .now)) (keyPart (a .p .now))) (algorithmIn (a .p .now)) (formatIn (a .p .now)) (keyPart (a .p .now)) (a .out .now) ≡ z
 of-its-page c z e = rw (← c .before .before .read8 .ensures .0, ← c .before .read82 .ensures .0, ← c .key-part .ensures) e
 
 -- the place of the last test before the KEY part
@@ -63,7 +62,6 @@ load-part-requires c κs =
     let passed = accepted p (readable (past .before)) in (
       table-good (past .before .before .before),
       of-its-part at-part partRefused ∙ or-right (not (fieldsOk p)) (partRefused (formatIn p) (keyPart p)) (passed .1),
-      of-its-part at-part partLong ∙ or-right (ltb pageMax (length p)) (partLong (formatIn p) (keyPart p)) (passed .2),
       past .if2 .left,
     )
 

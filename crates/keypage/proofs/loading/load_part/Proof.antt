@@ -3,10 +3,9 @@
 use mathlib.Core.Path.{_≡_, sym, ap, _∙_}
 use mathlib.Core.List.{List}
 use Prim.Native.Nat.{ℕ}
-use Rattle.keytable.specs.Table.{rowFor}
-use Rattle.keypage.specs.KeyPart.{partLong, nameFor}
-use Rattle.keypage.proofs.ByFormat.{third-format, reference-short}
-use Rattle.keypage.proofs.LoadNumbers.{loaded, plain-zero}
+use Rattle.keypage.specs.Load.{rowNamed, partAnswer}
+use Rattle.keypage.proofs.ByFormat.{third-format}
+use Rattle.keypage.proofs.LoadNumbers.{plain-zero}
 use borrow.Author.Needs.{needs}
 use Rattle.keypage.proofs.loading.load_part.Statement.{statement}
 use Rattle.keypage.proofs.loading.load_part.Tie as tie
@@ -21,31 +20,31 @@ returns : tie.Need-returns
 returns c =
     let at-put = c .before .before in
     let a = start (at-put .before .before .before) .args in
-    plain-zero (rowFor (a .table .now) (nameFor (a .format) (a .s .now))) (a .algorithm) (a .s .now) (a .out .now) (a .format) (at-put .before .before .if1 .taken) ∙ ap (λ (l : List ℕ). (0, l)) (sym (at-put .put .ensures))
+    plain-zero (rowNamed (a .table .now) (a .format) (a .s .now)) (a .algorithm) (a .s .now) (a .out .now) (a .format) (at-put .before .before .if1 .taken) ∙ ap (λ (l : List ℕ). (0, l)) (sym (at-put .put .ensures))
 
 load-reference-requires : tie.Need-load-reference-requires
 load-reference-requires c κs =
     let s = start (c .before .before .before) in
-    (s .pre .0, reference-short _ (ap (λ (f : ℕ). partLong f (s .args .s .now)) (sym (c .before .if2 .taken)) ∙ s .pre .2), s .pre .3)
+    (s .pre .0, s .pre .2)
 
 returns-2 : tie.Need-returns-2
 returns-2 c =
     let at-load = c .before .before in
     let known = at-load .before .before in
     let a = start (known .before .before) .args in
-    ap (λ (f : ℕ). loaded (rowFor (a .table .now) (nameFor f (a .s .now))) (a .algorithm) f (a .s .now) (a .out .now)) (known .if2 .taken) ∙ at-load .load-reference .ensures
+    ap (λ (f : ℕ). partAnswer (rowNamed (a .table .now) f (a .s .now)) (a .algorithm) f (a .s .now) (a .out .now)) (known .if2 .taken) ∙ at-load .load-reference .ensures
 
 load-wrapped-requires : tie.Need-load-wrapped-requires
 load-wrapped-requires c κs =
     let s = start (c .before .before .before) in
-    (s .pre .0, ap (λ (f : ℕ). partLong f (s .args .s .now)) (sym (wrapped-format (c .before))) ∙ s .pre .2, s .pre .3)
+    (s .pre .0, s .pre .2)
 
 returns-3 : tie.Need-returns-3
 returns-3 c =
     let at-load = c .before .before in
     let known = at-load .before .before in
     let a = start (known .before .before) .args in
-    ap (λ (f : ℕ). loaded (rowFor (a .table .now) (nameFor f (a .s .now))) (a .algorithm) f (a .s .now) (a .out .now)) (wrapped-format known) ∙ at-load .load-wrapped .ensures
+    ap (λ (f : ℕ). partAnswer (rowNamed (a .table .now) f (a .s .now)) (a .algorithm) f (a .s .now) (a .out .now)) (wrapped-format known) ∙ at-load .load-wrapped .ensures
 
 pub load-part-spec : {M : Type 1} → statement M
 load-part-spec =

@@ -1,9 +1,8 @@
 -- `keypage::reading::page_ok` meets its contract: its result is made of what its callees ensure.
 -- Assumes nothing.
 use mathlib.Core.Path.{ap, _∙_}
-use mathlib.Core.Bool.{false}
 use Rattle.octets.specs.Tests.{zeros}
-use Rattle.descriptors.specs.Tested.{listOk}
+use Rattle.keypage.specs.Page.{pageListOk}
 use Rattle.keypage.proofs.ReadNumbers.{page-tested}
 use borrow.Author.Needs.{needs}
 use Rattle.keypage.proofs.reading.page_ok.Statement.{statement}
@@ -19,7 +18,7 @@ returns c =
     (at-size .before .read16 .ensures .0) (at-size .read162 .ensures .0) (c .before .read8 .ensures .0)
     (at-reserved .all-zero .ensures ∙ ap zeros (at-reserved .before .part .ensures))
     (c .read163 .ensures .0)
-    (at-listed .list-ok .ensures ∙ ap (listOk false false) (at-listed .before .list-in .ensures))
+    (at-listed .list-ok .ensures ∙ ap pageListOk (at-listed .before .list-in .ensures))
 
 pub page-ok-spec : {M : Type 1} → statement M
 page-ok-spec =

@@ -11,4 +11,4 @@ returns c = cc
 
 pub has-name-spec : {M : Type 1} → statement M
 has-name-spec =
-    tie.close (tie.spec (λ c. search needs) (λ c κs. search needs) (λ c κs. search needs) (λ c κs. search needs) returns)
+    tie.close (tie.spec (λ c κs. search needs) (λ c κs. search needs) (λ c κs. search needs) returns)

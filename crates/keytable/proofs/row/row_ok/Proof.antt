@@ -12,7 +12,7 @@ use Rattle.keytable.proofs.row.row_ok.Tie as tie
 returns : tie.Need-returns
 unfolding rowOk
 returns c =
-    let row = c .before .before .before .before .before .before .args .row .now in
+    let row = c .before .before .before .before .args .row .now in
     sym (every-not (rowTests row) 1 (lt-leb (nameLength row) 32 (omega arith)))
 
 returns-2 : tie.Need-returns-2
@@ -23,9 +23,7 @@ pub row-ok-spec : {M : Type 1} → statement M
 row-ok-spec =
     tie.close
     (tie.spec
-    (λ c. search needs)
     (λ c κs. search needs)
-    (λ c. search needs)
     (λ c κs. search needs)
     returns
     (λ c κs. search needs)

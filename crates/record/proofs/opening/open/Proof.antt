@@ -5,7 +5,7 @@ use mathlib.Core.Bool.{Bool, true, false, _||_}
 use mathlib.Core.List.{List, [], _∷_}
 use mathlib.Core.Logic.{⊎-elim}
 use mathlib.Core.Option.{some}
-use Prim.Native.Nat.{ℕ, _≤_}
+use Prim.Native.Nat.{ℕ}
 use native.Mathlib.Omega.{arith}
 use borrow.Author.Tests.{lt-ltb, le-ltb, eq-eqb, ne-eqb}
 use lib.Dec.{eqb, ltb}
@@ -13,8 +13,9 @@ use lib.ListN.{length}
 use types.Run.{OneOf}
 use denote.Enum.Declared.{tagOf, declared}
 use Rattle.octets.specs.Tests.{partOf}
-use Rattle.keytable.specs.Row.{nameMax, keySize, useOf, keyOf}
-use Rattle.keytable.specs.Table.{tableOk, rowFor, rowAt}
+use Rattle.octets.proofs.Places.{its-bytes}
+use Rattle.keytable.specs.Row.{keySize, useOf, keyOf}
+use Rattle.keytable.specs.Table.{tableOk, dataRow, rowAt}
 use Rattle.keytable.proofs.Calls.{rows-accepted, broken-refused}
 use Rattle.record.specs.Record.{modeIn, countIn, nameSize, nameIn}
 use Rattle.record.specs.Read.{passes, headerSays}
@@ -23,9 +24,8 @@ use Rattle.record.specs.Open.{authenticBy, plaintextBy}
 use Rattle.record.proofs.Numbers.{open-one, open-four, open-five, open-six, open-seven, open-nine, open-zero}
 use Rattle.record.specs.declared.header.Header.{Header}
 use Rattle.record.specs.declared.header.Header.the-variants.{Fields, BadForm, BadMode, TooLong}
-use Rattle.record.proofs.Reading.{Accepted, accepted, name-short, open-unread}
+use Rattle.record.proofs.Reading.{Accepted, accepted, open-unread}
 use Rattle.record.proofs.Apart.{tag-wrong, tag-was-right}
-use Rattle.octets.proofs.Tests.{part-short}
 use Rattle.keytable.proofs.RowFound.{no-row, the-row, row-key}
 use borrow.Author.Needs.{needs}
 use Rattle.record.proofs.opening.open.Statement.{statement}
@@ -88,31 +88,25 @@ name-is : (c : tie.After-part) → c .part .result .now ≡ nameIn (start (check
 unfolding nameIn
 name-is c = c .part .ensures ∙ ap (partOf (start (checked (known (c .before))) .args .r .now) 24) (is-read (known (c .before)) .size-is)
 
-name-fits : (c : tie.After-part) → length (c .part .result .now) ≤ nameMax
-name-fits c =
-    let is = is-read (known (c .before)) in
-    let a = start (checked (known (c .before))) .args in
-    omega (arith, ap length (c .part .ensures), part-short (a .r .now) 24 (known (c .before) .before .h .given .0 .1 .0), is .size-is, name-short (a .r .now) (is .short))
-
 returns-5 : tie.Need-returns-5
 returns-5 c =
-    let at-find = c .before .before in
+    let at-find = c .before in
     let at-part = at-find .before in
     let past = at-part .before in
     let is = is-read (known past) in
     let ok = table-good (checked (known past)) in
     open-six _ _ _ _ _ _ ok (is .layout) (is .mode-ok) (long (known past) false (le-ltb _ _ (past .before .if1 .left))) (roomy past)
-    (ap (rowFor _) (sym (name-is at-part)) ∙ no-row _ _ _ ok (name-fits at-part) (at-find .find .ensures) (c .enum-told3 .given .1))
+    (ap (dataRow _) (sym (name-is at-part)) ∙ no-row _ _ (at-find .find .result) ok (at-find .find .ensures) (c .match3 .keys2))
 
 -- the row that was found is that of the record's name
 found : (c : tie.After-at) → let a = start (checked (known (c .before .before .before .before))) .args in
-    (rowFor (a .table .now) (nameIn (a .r .now)) ≡ some (rowAt (a .table .now) (c .at .given .0 .0))) × (length (keyOf (rowAt (a .table .now) (c .at .given .0 .0))) ≡ keySize)
+    (dataRow (a .table .now) (nameIn (a .r .now)) ≡ some (rowAt (a .table .now) (c .at .given .0 .0))) × (length (keyOf (rowAt (a .table .now) (c .at .given .0 .0))) ≡ keySize)
 found c =
     let at-find = c .before .before in
     let at-part = at-find .before in
     let ok = table-good (checked (known (at-part .before))) in (
-      ap (rowFor _) (sym (name-is at-part)) ∙ the-row _ _ _ ok (name-fits at-part) (at-find .find .ensures) _ (c .at .given .1),
-      row-key _ _ _ ok (name-fits at-part) (at-find .find .ensures) _ (c .at .given .1),
+      ap (dataRow _) (sym (name-is at-part)) ∙ the-row _ _ _ ok (at-find .find .ensures) _ (c .at .given .1),
+      row-key _ _ _ ok (at-find .find .ensures) _ (c .at .given .1),
     )
 
 returns-6 : tie.Need-returns-6
@@ -133,7 +127,7 @@ open-by-requires c κs =
     let is = is-read (known past) in
     let a = start (checked (known past)) .args in (
       sym (ap headerSays (sym (known past .before .h .given .1)) ∙ known past .before .before .before .read .ensures),
-      ap length (at-key .key-at .ensures) ∙ found at .1,
+      ap length (its-bytes (at-key .key-at .ensures)) ∙ found at .1,
       past .before .if1 .left,
       past .if2 .left,
     )
@@ -161,7 +155,7 @@ returns-7 c =
     let a = start (checked (known (past done))) .args in
     let wrong =
     tag-wrong (authenticBy (keyOf (row done)) (a .r .now) (a .aad .now)) (plaintextBy (keyOf (row done)) (a .r .now)) (a .out .now) _ _
-    (rw (done .before .before .key-at .ensures) at (done .open-by .ensures)) (c .if4 .taken) in
+    (rw (its-bytes (done .before .before .key-at .ensures)) at (done .open-by .ensures)) (c .if4 .taken) in
     open-nine _ _ _ _ _ _ (table-good (checked (known (past done)))) (is .layout) (is .mode-ok) (long (known (past done)) false (le-ltb _ _ (past done .before .if1 .left))) (roomy (past done)) _ (found (at done) .0)
     (same-use done) (wrong .0)
     ∙ ap (λ (l : List ℕ). ((9, l), a .count .now)) (sym (wrong .1))
@@ -173,7 +167,7 @@ returns-8 c =
     let a = start (checked (known (past done))) .args in
     let right =
     tag-was-right (authenticBy (keyOf (row done)) (a .r .now) (a .aad .now)) (plaintextBy (keyOf (row done)) (a .r .now)) (a .out .now) _ _
-    (rw (done .before .before .key-at .ensures) at (done .open-by .ensures)) (c .if4 .left) in
+    (rw (its-bytes (done .before .before .key-at .ensures)) at (done .open-by .ensures)) (c .if4 .left) in
     open-zero _ _ _ _ _ _ (table-good (checked (known (past done)))) (is .layout) (is .mode-ok) (long (known (past done)) false (le-ltb _ _ (past done .before .if1 .left))) (roomy (past done)) _ (found (at done) .0)
     (same-use done) (right .0)
     ∙ ap₂ (λ (l : List ℕ) (n : ℕ). ((0, l), n)) (sym (right .1)) (sym (is .count-is))
@@ -194,7 +188,6 @@ open-spec =
     returns-4
     (λ c κs. search needs)
     (λ c κs. search needs)
-    (λ c. search needs)
     (λ c. search needs)
     returns-5
     (λ c κs. search needs)

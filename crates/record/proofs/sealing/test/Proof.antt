@@ -8,15 +8,17 @@ use borrow.Author.Tests.{lt-ltb, le-ltb, not-true, not-false}
 use lib.Dec.{ltb}
 use lib.ListN.{length}
 use Rattle.keytable.specs.Row.{nameMax}
-use Rattle.keytable.specs.Table.{tableOk, rowFor}
+use Rattle.keytable.specs.Table.{tableOk, dataRow}
 use Rattle.keytable.specs.Calls.{useIn}
+use Rattle.keytable.specs.Find.{rowFound}
 use Rattle.keytable.proofs.Calls.{rows-accepted, broken-refused}
 use Rattle.modes.specs.Calls.{textMax}
 use Rattle.modes.specs.Modes.{namesMode, modeOf}
 use Rattle.record.specs.Read.{passes}
-use Rattle.record.specs.Seal.{callersMax, rowFound}
+use Rattle.record.specs.Seal.{callersMax}
 use Rattle.record.proofs.Numbers.{iv-small, tag-small, within-maxima, ready-one, ready-two, ready-four, ready-five, ready-six, ready-seven, ready-zero}
-use Rattle.record.proofs.Looked.{looked-up}
+use Rattle.keytable.proofs.Laws.{finds-row}
+use Rattle.keytable.proofs.RowFound.{not-found}
 use borrow.Author.Needs.{needs}
 use Rattle.record.proofs.sealing.test.Statement.{statement}
 use Rattle.record.proofs.sealing.test.Tie as tie
@@ -32,13 +34,13 @@ module _ (c : tie.After-iv-size) where
   good : tableOk (start .args .table .now) ≡ true
   good = rows-accepted _ _ _ (looked .before .before .before .check .ensures) (looked .before .enum-told .given .1)
 
-  row-is : rowFor (start .args .table .now) (start .args .name .now) ≡ rowFound (start .args .table .now) (looked .find .result)
-  row-is = looked-up _ _ (looked .find .result) good (looked .find .ensures)
+  row-is : dataRow (start .args .table .now) (start .args .name .now) ≡ rowFound (start .args .table .now) (looked .find .result)
+  row-is = finds-row _ _ (looked .find .result) good (looked .find .ensures)
 
-  use-is : c .before .use-found .result ≡ useIn (rowFor (start .args .table .now) (start .args .name .now))
+  use-is : c .before .use-found .result ≡ useIn (dataRow (start .args .table .now) (start .args .name .now))
   use-is = c .before .use-found .ensures ∙ ap useIn (sym row-is)
 
-  ivs : c .iv-size .result ≡ modeOf (useIn (rowFor (start .args .table .now) (start .args .name .now))) .ivSize
+  ivs : c .iv-size .result ≡ modeOf (useIn (dataRow (start .args .table .now) (start .args .name .now))) .ivSize
   ivs = c .iv-size .ensures ∙ ap (λ (u : ℕ). modeOf u .ivSize) use-is
 
 -- past the maxima
@@ -75,7 +77,7 @@ module _ (c : tie.After-tag-size) where
   abbrev at : tie.After-iv-size
   at = sized (c .before .before)
 
-  tags : c .tag-size .result ≡ modeOf (useIn (rowFor (start at .args .table .now) (start at .args .name .now))) .tagSize
+  tags : c .tag-size .result ≡ modeOf (useIn (dataRow (start at .args .table .now) (start at .args .name .now))) .tagSize
   tags = c .tag-size .ensures ∙ ap (λ (u : ℕ). modeOf u .tagSize) (use-is at)
 
   abbrev measured : tie.Else1
@@ -93,10 +95,10 @@ returns-4 c =
 
 returns-5 : tie.Need-returns-5
 returns-5 c =
-    let roomy = c .before .before in
+    let roomy = c .before in
     let s = roomy .before in
     ready-six _ _ _ _ _ _ _ (good (at s)) _ (ivs (at s)) (measured s .if1 .left) (passed (s .before .before) false (s .before .if2 .left)) _ (tags s) (le-ltb _ _ (roomy .if3 .left))
-    (row-is (at s) ∙ ap (rowFound _) (c .enum-told3 .given .1))
+    (row-is (at s) ∙ not-found _ (looked (at s) .find .result) (c .match2 .keys2))
 
 returns-6 : tie.Need-returns-6
 returns-6 c =
@@ -136,7 +138,6 @@ test-spec =
     (λ c κs. search needs)
     add-if3-4
     returns-4
-    (λ c. search needs)
     (λ c. search needs)
     returns-5
     (λ c κs. search needs)

@@ -7,8 +7,9 @@ use Prim.Native.Nat.{ℕ}
 use lib.ListN.{length}
 use borrow.Author.Needs.{needs}
 use Rattle.octets.specs.Lent.{over}
+use Rattle.octets.proofs.Places.{its-bytes}
 use Rattle.keytable.specs.Row.{useOf}
-use Rattle.keytable.specs.Table.{tableOk, rowFor, rowAt}
+use Rattle.keytable.specs.Table.{tableOk, dataRow, rowAt}
 use Rattle.keytable.proofs.Laws.{rowFor-good}
 use Rattle.record.specs.Seal.{recordOf, recordBy}
 use Rattle.record.specs.Laws.{InRange}
@@ -23,7 +24,7 @@ able : (c : tie.After-use-at) → let a = start c .args in
     InRange (tableOk (a .table .now)) (some (rowAt (a .table .now) (a .at))) (a .name .now) (a .iv .now) (a .aad .now) (length (a .plain .now)) (length (a .out .now))
 able c = ready-able _ _ _ _ _ _ _ _ (start c .pre)
 
-found : (c : tie.After-use-at) → let a = start c .args in rowFor (a .table .now) (a .name .now) ≡ some (rowAt (a .table .now) (a .at))
+found : (c : tie.After-use-at) → let a = start c .args in dataRow (a .table .now) (a .name .now) ≡ some (rowAt (a .table .now) (a .at))
 found c = ready-row _ _ _ _ _ _ _ _ (start c .pre)
 
 fill-requires : tie.Need-fill-requires
@@ -34,7 +35,7 @@ fill-requires c κs =
     let a = start at-use .args in
     let h = able at-use in
     let use-is = at-use .use-at .ensures ∙ ap useOf (sym (ready-same _ _ _ _ _ _ _ _ (start at-use .pre))) in (
-      ap length (at-key .key-at .ensures) ∙ rowFor-good (a .table .now) (a .name .now) _ (h .accepted) (found at-use) .key-size,
+      ap length (its-bytes (at-key .key-at .ensures)) ∙ rowFor-good (a .table .now) (a .name .now) _ (h .accepted) (found at-use) .key-size,
       h .name-fits,
       rw use-is (h .iv-size),
       rw use-is (h .permitted),
@@ -50,7 +51,7 @@ returns c =
     let at-use = at-key .before in
     let a = start at-use .args in
     done .fill .ensures
-    ∙ ap₂ (λ (u : ℕ) (key : List ℕ). over (recordOf u key (a .name .now) (a .iv .now) (a .aad .now) (a .plain .now)) (a .out .now)) (at-use .use-at .ensures) (at-key .key-at .ensures)
+    ∙ ap₂ (λ (u : ℕ) (key : List ℕ). over (recordOf u key (a .name .now) (a .iv .now) (a .aad .now) (a .plain .now)) (a .out .now)) (at-use .use-at .ensures) (its-bytes (at-key .key-at .ensures))
     ∙ ap (λ (o : Option (List ℕ)). over (recordBy o (a .name .now) (a .iv .now) (a .aad .now) (a .plain .now)) (a .out .now)) (sym (found at-use))
 
 pub write-spec : {M : Type 1} → statement M

@@ -1,25 +1,24 @@
--- `keypage::loading::load_wrapped` meets its contract: at each return the tests passed and the one met say which number is the lowest; the last is that of the unwrapping.
+-- `keypage::wrapped::load_wrapped` meets its contract: at each return the tests passed and the one met say which number is the lowest; the last is that of the unwrapping.
 -- Assumes nothing.
 use mathlib.Core.Path.{_≡_, sym, ap, ap₂, _∙_}
 use mathlib.Core.List.{List}
 use mathlib.Core.Option.{some}
-use Prim.Native.Nat.{ℕ, _+_, _≤_}
-use native.Mathlib.Omega.{arith}
+use Prim.Native.Nat.{ℕ, _+_}
 use borrow.Author.Tests.{eq-eqb, ne-eqb}
 use lib.Dec.{eqb}
 use lib.ListN.{length, drop}
 use Rattle.octets.specs.Tests.{partOf}
-use Rattle.keytable.specs.Row.{nameMax, keySize, keyOf}
+use Rattle.octets.proofs.Places.{its-bytes}
+use Rattle.keytable.specs.Row.{keySize, keyOf}
 use Rattle.keytable.specs.Table.{rowFor, rowAt}
 use Rattle.keywrap.specs.Calls.{unwrapAnswer}
 use Rattle.keypage.specs.KeyPart.{kekUse, identifierOf, wrappedOf}
-use Rattle.octets.proofs.Tests.{part-short, part-rest}
-use Rattle.keypage.proofs.ByFormat.{identifier-short}
+use Rattle.octets.proofs.Tests.{part-rest}
 use Rattle.keypage.proofs.LoadNumbers.{wrapped-six, wrapped-seven, wrapped-rest}
 use Rattle.keytable.proofs.RowFound.{no-row, the-row, row-key}
 use borrow.Author.Needs.{needs}
-use Rattle.keypage.proofs.loading.load_wrapped.Statement.{statement}
-use Rattle.keypage.proofs.loading.load_wrapped.Tie as tie
+use Rattle.keypage.proofs.wrapped.load_wrapped.Statement.{statement}
+use Rattle.keypage.proofs.wrapped.load_wrapped.Tie as tie
 
 abbrev start : tie.After-part → tie.Start
 start c = c .before .before .before .before .before
@@ -27,11 +26,6 @@ start c = c .before .before .before .before .before
 -- what is looked up is the identifier, and what is passed on the rest
 name-is : (c : tie.After-part) → c .part .result .now ≡ identifierOf (start c .args .s .now)
 name-is c = c .part .ensures ∙ ap (partOf (start c .args .s .now) 4) (c .before .read16 .ensures .0)
-
-name-fits : (c : tie.After-part) → length (c .part .result .now) ≤ nameMax
-name-fits c =
-    let s = start c .args .s .now in
-    omega (arith, ap length (c .part .ensures), part-short s 4 (c .before .read16 .result), c .before .read16 .ensures .0, identifier-short s (start c .pre .1))
 
 abbrev looked : tie.After-part2 → tie.After-part
 looked c = c .before .before .before .before .before .before .before .before
@@ -48,18 +42,18 @@ found c =
     let at-find = c .before .before in
     let at-part = at-find .before in
     let ok = start at-part .pre .0 in (
-      ap (rowFor _) (sym (name-is at-part)) ∙ the-row _ _ _ ok (name-fits at-part) (at-find .find .ensures) _ (c .at .given .1),
-      row-key _ _ _ ok (name-fits at-part) (at-find .find .ensures) _ (c .at .given .1),
+      ap (rowFor _) (sym (name-is at-part)) ∙ the-row _ _ _ ok (at-find .find .ensures) _ (c .at .given .1),
+      row-key _ _ _ ok (at-find .find .ensures) _ (c .at .given .1),
     )
 
 returns : tie.Need-returns
 returns c =
-    let at-find = c .before .before in
+    let at-find = c .before in
     let from = start (at-find .before) in
     let a = from .args in
     wrapped-six _ (a .algorithm) (a .s .now) (a .out .now)
     (ap (rowFor (a .table .now)) (sym (name-is (at-find .before)))
-    ∙ no-row _ _ _ (from .pre .0) (name-fits (at-find .before)) (at-find .find .ensures) (c .enum-told .given .1))
+    ∙ no-row _ _ (at-find .find .result) (from .pre .0) (at-find .find .ensures) (c .match .keys2))
 
 returns-2 : tie.Need-returns-2
 returns-2 c =
@@ -78,8 +72,8 @@ returns-3 c =
     let at = at-use .before .before in
     let from = start (at .before .before .before) in
     let a = from .args in
-    wrapped-rest _ (a .algorithm) (a .s .now) (a .out .now) _ (found at .0) (ap (λ (u : ℕ). eqb u kekUse) (sym (at-use .use-at .ensures)) ∙ eq-eqb _ _ (same-use .if1 .left)) (found at .1) (from .pre .2)
-    ∙ ap₂ (λ (k w : List ℕ). unwrapAnswer k w (a .out .now)) (sym (at-key .key-at .ensures)) (sym (rest-is at-rest))
+    wrapped-rest _ (a .algorithm) (a .s .now) (a .out .now) _ (found at .0) (ap (λ (u : ℕ). eqb u kekUse) (sym (at-use .use-at .ensures)) ∙ eq-eqb _ _ (same-use .if1 .left)) (found at .1) (from .pre .1)
+    ∙ ap₂ (λ (k w : List ℕ). unwrapAnswer k w (a .out .now)) (sym (its-bytes (at-key .key-at .ensures))) (sym (rest-is at-rest))
     ∙ at-unwrap .unwrap .ensures
 
 pub load-wrapped-spec : {M : Type 1} → statement M
@@ -89,7 +83,6 @@ load-wrapped-spec =
     (λ c κs. search needs)
     (λ c κs. search needs)
     (λ c κs. search needs)
-    (λ c. search needs)
     (λ c. search needs)
     returns
     (λ c κs. search needs)
