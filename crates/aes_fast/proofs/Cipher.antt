@@ -93,5 +93,5 @@ module _ (t : Tables) (ks : List State) where
   pub ready-cipher : Ready t ks → {b : List ℕ} → Bytes b → cipherBy t ks b ≡ cipher ks b
   ready-cipher ready {b} h = cipherBy-right t ks (λ n. record { columns = ready .keys n }) (ready .tables) b h
 
-  pub ciphered : {b r : List ℕ} → Bytes b → r ≡ cipherBy t ks b → Ciphered t ks b r
+  pub ciphered : {b r : List ℕ} → Bytes b → r ≡ cipherBy t ks b → Ciphered t ks (λ f. f b) r
   ciphered h e = record { by-tables = e; by-cipher = λ ready. e ∙ ready-cipher ready h }

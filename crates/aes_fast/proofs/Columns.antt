@@ -8,6 +8,7 @@ use lib.Bits.{bitXor, xor-shr, xor-mod}
 use Rattle.aes_field.specs.Words.{Column, columnOf}
 use Rattle.aes.specs.Cipher.{addColumn}
 use Rattle.aes_fast.specs.ByTables.{columnFrom}
+use Rattle.aes_fast.specs.ByTables.Inside.{columnFrom-is}
 use Rattle.aes_fast.specs.Right.{wordFrom}
 
 -- lists of four are equal by their elements
@@ -21,8 +22,7 @@ xor-row : (a b k : ℕ) → bitXor a b / 2 ^ k % 2 ^ 8 ≡ bitXor (a / 2 ^ k % 2
 xor-row a b k = ap (λ (x : ℕ). x % 2 ^ 8) (xor-shr a b k) ∙ xor-mod (a / 2 ^ k) (b / 2 ^ k) 8
 
 pub columnFrom-xor : (a b : ℕ) → columnFrom (bitXor a b) ≡ addColumn (columnFrom a) (columnFrom b)
-unfolding columnFrom
-columnFrom-xor a b = four (xor-mod a b 8) (xor-row a b 8) (xor-row a b 16) (xor-row a b 24)
+columnFrom-xor a b = rw (columnFrom-is (bitXor a b), columnFrom-is a, columnFrom-is b) (four (xor-mod a b 8) (xor-row a b 8) (xor-row a b 16) (xor-row a b 24))
 
 pub columnFrom-xor-four : (a b c d : ℕ)
     → columnFrom (bitXor (bitXor (bitXor a b) c) d) ≡ addColumn (addColumn (addColumn (columnFrom a) (columnFrom b)) (columnFrom c)) (columnFrom d)
@@ -33,8 +33,7 @@ columnFrom-xor-four a b c d =
 -- ---- of bytes
 
 pub columnFrom-four : (a b c d : ℕ) → a < 256 → b < 256 → c < 256 → d < 256 → columnFrom (a + b * 256 + c * 65536 + d * 16777216) ≡ a ∷ b ∷ c ∷ d ∷ []
-unfolding columnFrom
-columnFrom-four a b c d ha hb hc hd = four (omega arith) (omega arith) (omega arith) (omega arith)
+columnFrom-four a b c d ha hb hc hd = columnFrom-is (a + b * 256 + c * 65536 + d * 16777216) ∙ four (omega arith) (omega arith) (omega arith) (omega arith)
 
 pub columnFrom-wordFrom : (f : ℕ → ℕ) → ((r : ℕ) → f r < 256) → columnFrom (wordFrom (columnOf f)) ≡ columnOf f
 columnFrom-wordFrom f h = columnFrom-four (f 0) (f 1) (f 2) (f 3) (h 0) (h 1) (h 2) (h 3)

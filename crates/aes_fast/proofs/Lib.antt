@@ -4,6 +4,7 @@ mod Pairs
 mod Steps
 mod Shared
 mod Restored
+mod Strings
 mod Starts
 mod Cipher
 pub mod Laws

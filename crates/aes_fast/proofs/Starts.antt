@@ -7,6 +7,7 @@ use native.Mathlib.Omega.{arith}
 use lib.Bits.{bitXor}
 use lib.ListN.{length, getD}
 use Rattle.octets.specs.Bytes.{Bytes}
+use Rattle.octets.specs.Xor.{xors}
 use Rattle.octets.proofs.Bytes.{bytes-nil, bytes-cons, bytes-append, bytes-take}
 use Rattle.octets.proofs.Values.{values-list}
 use Rattle.aes_field.specs.Words.{Column}
@@ -16,11 +17,12 @@ use Rattle.aes_fast.specs.ByTables.{Tables, columnFrom, entryAt, shifted
 use Rattle.aes_fast.specs.ByTables.Inside.{cipherBy-is}
 use Rattle.aes_fast.specs.Right.{wordFrom}
 use Rattle.aes_fast.specs.Halves.{columnsOf, halvesBlock, halvesFrom}
+use Rattle.aes_fast.specs.Halves.Inside.{columnsOf-is}
 use Rattle.aes_fast.specs.Start.{withLast, stateAfter, columnAdds, startBy, begunBy, cipherFrom}
 use Rattle.aes_fast.specs.Start.Inside.{start-key, start-first, start-second, cipherFrom-is}
 use Rattle.aes_fast.specs.declared.halves.Halves.{Halves}
 use Rattle.aes_fast.specs.declared.start.Start.{Start}
-use Rattle.aes_fast.proofs.Pairs.{low-part, high-3}
+use Rattle.aes_fast.proofs.Pairs.{low-part, high-3, columnsOf-xor}
 use Rattle.aes_fast.proofs.Steps.{keyBytes, roundBy-key, first-key}
 use Rattle.aes_fast.proofs.Restored.{wordFrom-columnFrom, halvesFrom-columnsOf, bytes-columnFrom, bytes-mixedBy, columnFrom-sum, columnsOf-sum}
 use Rattle.aes_fast.proofs.Shared.{round-last, round-column}
@@ -33,15 +35,13 @@ start-equal r s p q e =
     ∙ ap₂ (λ (w : ℕ) (h : Halves). let made : Start = record { key = s .key; first = w; second = h } in made) q e
 
 column-0 : (h : Halves) → columnFrom (h .first % 4294967296) ≡ column (columnsOf h) 0
-unfolding columnsOf
-column-0 h = low-part (h .first)
+column-0 h = low-part (h .first) ∙ ap (λ (s : State). column s 0) (sym (columnsOf-is h))
 
 last-byte : (h : Halves) → h .second / 72057594037927936 % 256 ≡ shifted (columnsOf h) 0 3
-unfolding columnsOf
-last-byte h = high-3 (h .second)
+last-byte h = high-3 (h .second) ∙ ap (λ (s : State). shifted s 0 3) (sym (columnsOf-is h))
 
 module _ (t : Tables) (ks : List State) (b : List ℕ) where
-  pub after-0 : (h k x : Halves) → halvesBlock h ≡ b → columnsOf k ≡ keyBytes (getD ks 0 []) → columnsOf x ≡ addRoundKey (columnsOf h) (columnsOf k)
+  pub after-0 : (h k x : Halves) → halvesBlock h ≡ b → columnsOf k ≡ keyBytes (getD ks 0 []) → halvesBlock x ≡ xors (halvesBlock h) (halvesBlock k)
       → columnsOf x ≡ stateAfter t ks 0 b
   unfolding roundsBy
   after-0 h k x is key e = first-key t ks h k x e key ∙ ap (λ (l : List ℕ). addRoundKey (stateFrom l) (getD ks 0 [])) is
@@ -61,7 +61,7 @@ module _ (t : Tables) (ks : List State) (b : List ℕ) where
       → r .key ≡ getD (column (getD ks 0 []) 3) 3 0
       → columnFrom (r .first) ≡ addColumn (columnFrom (y .first % 4294967296)) (entryAt t 3 (x .second / 72057594037927936 % 256))
       → columnsOf add ≡ columnAdds t (columnFrom (y .first % 4294967296))
-      → columnsOf (r .second) ≡ addRoundKey (columnsOf z) (columnsOf add)
+      → halvesBlock (r .second) ≡ xors (halvesBlock z) (halvesBlock add)
       → r .first < 4294967296 → r .second .first < 2 ^ 64 → r .second .second < 2 ^ 64
       → r ≡ startBy t ks b
   start-steps r x y z add ex ey ez key first adds second fits low high =
@@ -72,7 +72,7 @@ module _ (t : Tables) (ks : List State) (b : List ℕ) where
       (first ∙ ap₂ (λ (a : Column) (n : ℕ). addColumn a (entryAt t 3 n)) u (last-byte x ∙ ap (λ (s : State). shifted s 0 3) ex))
       ∙ sym (start-first t ks b))
       (halvesFrom-columnsOf (r .second) low high
-      ∙ ap halvesFrom (second ∙ ap₂ addRoundKey ez (adds ∙ ap (columnAdds t) u))
+      ∙ ap halvesFrom (columnsOf-xor z add (r .second) second ∙ ap₂ addRoundKey ez (adds ∙ ap (columnAdds t) u))
       ∙ sym (start-second t ks b))
 
 -- ---- the cipher from a start
@@ -156,10 +156,10 @@ bytes-withLast h l = bytes-append (bytes-take 15 h) (bytes-cons l bytes-nil)
 
 -- ---- the code's state after round 2
 
-pub begun-steps : (t : Tables) (s : Start) (low last : ℕ) (u : Column) (add r : State) → last ≡ bitXor low (s .key) → last < 256
-    → u ≡ addColumn (columnFrom (s .first)) (entryAt t 3 (last % 256)) → add ≡ columnAdds t u → r ≡ addRoundKey (columnsOf (s .second)) add
-    → r ≡ begunBy t s low
+pub begun-steps : (t : Tables) (s : Start) (low last : ℕ) (u : Column) (add r : Halves) → last ≡ bitXor low (s .key) → last < 256
+    → u ≡ addColumn (columnFrom (s .first)) (entryAt t 3 (last % 256)) → columnsOf add ≡ columnAdds t u
+    → halvesBlock r ≡ xors (halvesBlock (s .second)) (halvesBlock add) → columnsOf r ≡ begunBy t s low
 unfolding begunBy
 begun-steps t s low last u add r is fits e adds sum =
     let same : last % 256 ≡ last = omega arith in
-    sum ∙ ap (addRoundKey (columnsOf (s .second))) (adds ∙ ap (columnAdds t) (e ∙ ap (λ (n : ℕ). addColumn (columnFrom (s .first)) (entryAt t 3 n)) (same ∙ is)))
+    columnsOf-xor (s .second) add r sum ∙ ap (addRoundKey (columnsOf (s .second))) (adds ∙ ap (columnAdds t) (e ∙ ap (λ (n : ℕ). addColumn (columnFrom (s .first)) (entryAt t 3 n)) (same ∙ is)))

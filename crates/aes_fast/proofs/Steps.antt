@@ -5,16 +5,18 @@ use mathlib.Core.List.{List, []}
 use Prim.Native.Nat.{ℕ, suc, _+_, _-_, _≤_}
 use native.Mathlib.Omega.{arith}
 use lib.ListN.{getD}
+use Rattle.octets.specs.Xor.{xors}
 use Rattle.aes.specs.State.{State, column, stateOf, stateFrom, bytes, bytesOf}
 use Rattle.aes.specs.Cipher.{addRoundKey}
 use Rattle.aes_fast.specs.ByTables.{Tables, roundBy, lastRoundBy, roundsBy, roundsAfter, laterRoundsBy, cipherBy}
 use Rattle.aes_fast.specs.ByTables.Inside.{cipherBy-is}
 use Rattle.aes_fast.specs.Halves.{columnsOf, halvesBlock}
+use Rattle.aes_fast.specs.Halves.Inside.{halvesBlock-is}
 use Rattle.aes_fast.specs.Start.{begunBy, cipherFrom}
 use Rattle.aes_fast.specs.Start.Inside.{cipherFrom-is}
 use Rattle.aes_fast.specs.declared.halves.Halves.{Halves}
 use Rattle.aes_fast.specs.declared.start.Start.{Start}
-use Rattle.aes_fast.proofs.Pairs.{columnsOf-block}
+use Rattle.aes_fast.proofs.Pairs.{columnsOf-block, columnsOf-xor}
 
 -- a round key as the words hold it: four rows of each column
 abbrev pub keyBytes : State → State
@@ -53,13 +55,12 @@ module _ (t : Tables) (ks : List State) where
 
   -- ---- from a block's halves to the halves of its cipher
 
-  pub first-key : (h k x : Halves) → columnsOf x ≡ addRoundKey (columnsOf h) (columnsOf k) → columnsOf k ≡ keyBytes (getD ks 0 [])
+  pub first-key : (h k x : Halves) → halvesBlock x ≡ xors (halvesBlock h) (halvesBlock k) → columnsOf k ≡ keyBytes (getD ks 0 [])
       → columnsOf x ≡ addRoundKey (stateFrom (halvesBlock h)) (getD ks 0 [])
-  first-key h k x e f = e ∙ ap₂ addRoundKey (columnsOf-block h) f
+  first-key h k x e f = columnsOf-xor h k x e ∙ ap₂ addRoundKey (columnsOf-block h) f
 
   block-of : (r : Halves) {x : State} → columnsOf r ≡ x → halvesBlock r ≡ bytesOf x
-  unfolding halvesBlock
-  block-of r e = ap bytesOf e
+  block-of r e = halvesBlock-is r ∙ ap bytesOf e
 
   pub cipherBy-all : (b : List ℕ) (x : State) (r : Halves) → x ≡ addRoundKey (stateFrom b) (getD ks 0 [])
       → columnsOf r ≡ laterRoundsBy t ks 0 x → halvesBlock r ≡ cipherBy t ks b

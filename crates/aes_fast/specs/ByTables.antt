@@ -1,4 +1,4 @@
--- The cipher by four tables of words: what any tables give. `cipherBy` is shut, as `cipher` is.
+-- The cipher by four tables of words: what any tables give. `columnFrom` and `cipherBy` are shut, as `cipher` is.
 -- Assumes nothing.
 use Prim.Native.Nat.{ℕ, zero, suc, _+_, _-_, _/_, _%_}
 use mathlib.Core.List.{List, [], _∷_}
@@ -12,7 +12,7 @@ abbrev pub Tables : Type 0
 Tables = List (List ℕ)
 
 -- a word of 32 bits as a column, row 0 lowest
-unfoldable pub columnFrom : ℕ → Column
+pub columnFrom : ℕ → Column
 columnFrom w = w % 256 ∷ w / 256 % 256 ∷ w / 65536 % 256 ∷ w / 16777216 % 256 ∷ []
 
 -- what table n has for the byte a

@@ -38,7 +38,7 @@ pub fn round_tables() -> [[u32; 256]; 4]
 }
 
 pub fn encrypt(t: &[[u32; 256]; 4], ks: &[[[u8; 4]; 4]; 15], b: [u8; 16]) -> [u8; 16]
-    ensures { λ r. ⌜ Ciphered (now (t .entry)) (now (ks .entry)) b r ⌝ }
+    ensures { λ r. ⌜ Ciphered (now (t .entry)) (now (ks .entry)) (λ f. f b) r ⌝ }
 {
     block(rounds_after(t, ks, 0, add_halves(halves_from(b), halves_of(ks[0]))))
 }

@@ -1,6 +1,9 @@
 // A column as a word of 32 bits, row 0 lowest.
 ghost use mathlib.Core.Path.{_≡_};
 ghost use mathlib.Core.List.{[], _∷_};
+ghost use Prim.Native.Nat.{_+_, _≤_};
+ghost use lib.ListN.{length};
+ghost use Rattle.octets.specs.Tests.{partOf};
 ghost use Rattle.aes.specs.State.{bytes};
 ghost use Rattle.aes_fast.specs.ByTables.{columnFrom};
 
@@ -14,4 +17,12 @@ pub(crate) fn word(a: [u8; 4]) -> u32
     ensures { λ r. ⌜ columnFrom r ≡ bytes a ⌝ }
 {
     word_of(a[0], a[1], a[2], a[3])
+}
+
+// The four bytes from place i on.
+pub(crate) fn word_at(s: &[u8], i: usize) -> u32
+    requires { ⌜ i + 4 ≤ length (now s) ⌝ }
+    ensures { λ r. ⌜ columnFrom r ≡ partOf (now (s .entry)) i 4 ⌝ }
+{
+    word_of(s[i], s[i + 1], s[i + 2], s[i + 3])
 }

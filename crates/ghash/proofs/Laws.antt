@@ -8,13 +8,13 @@ use Rattle.octets.specs.BigEndian.{number}
 use Rattle.octets.specs.Blocks.{chain}
 use Rattle.octets.proofs.BigEndian.{length-be, bytes-be}
 use Rattle.octets.proofs.Blocks.{chain-append, length-chain, bytes-chain}
-use Rattle.octets.proofs.Lent.{one-answer}
+use Rattle.octets.proofs.Unique.{unique}
 use Rattle.ghash.specs.Field.{bits, multiply, timesH}
 use Rattle.ghash.specs.Product.{product}
 use Rattle.ghash.specs.Product.Inside.{product-is}
 use Rattle.ghash.specs.Ghash.{ghashFrom}
 use Rattle.ghash.specs.Ghash.Inside.{ghash-is}
-use Rattle.ghash.specs.Laws.{ProductLength, ProductBytes, GhashLength, GhashBytes, GhashNil, GhashStep, GhashAppend, PartsOneAnswer}
+use Rattle.ghash.specs.Laws.{ProductLength, ProductBytes, GhashLength, GhashBytes, GhashNil, GhashStep, GhashAppend, PartsUnique}
 
 -- ---- the product
 
@@ -50,5 +50,5 @@ ghash-append h y bs cs =
     ∙ ap (λ (s : List ℕ). chain (λ x. product x h) s cs) (sym (ghash-is h y bs))
     ∙ sym (ghash-is h (ghashFrom h y bs) cs)
 
-pub parts-one-answer : PartsOneAnswer
-parts-one-answer h a b text last r s p q = one-answer (sym p) (sym q)
+pub parts-unique : PartsUnique
+parts-unique h a b text last = unique _

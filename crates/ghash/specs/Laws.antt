@@ -7,6 +7,7 @@ use lib.ListN.{length}
 use Rattle.octets.specs.Bytes.{Bytes}
 use Rattle.octets.specs.Xor.{xors}
 use Rattle.octets.specs.Blocks.{cut}
+use Rattle.octets.specs.Unique.{Unique}
 use Rattle.ghash.specs.Product.{product}
 use Rattle.ghash.specs.Ghash.{ghash, ghashFrom}
 
@@ -37,11 +38,7 @@ GhashStep = (h y b : List ℕ) (bs : List (List ℕ)) → ghashFrom h y (b ∷ b
 abbrev pub GhashAppend : Type 0
 GhashAppend = (h y : List ℕ) (bs cs : List (List ℕ)) → ghashFrom h y (bs ++ cs) ≡ ghashFrom h (ghashFrom h y bs) cs
 
--- ---- what meets the statement of `ghash_parts`
+-- ---- one answer meets the statement of `ghash_parts`
 
-abbrev pub PartsAnswer : (h a b text last r : List ℕ) → Type 0
-PartsAnswer h a b text last r = r ≡ ghash h (cut (a ++ b) ++ (cut text ++ (last ∷ [])))
-
--- one answer only
-abbrev pub PartsOneAnswer : Type 0
-PartsOneAnswer = (h a b text last r s : List ℕ) → PartsAnswer h a b text last r → PartsAnswer h a b text last s → r ≡ s
+abbrev pub PartsUnique : Type 0
+PartsUnique = (h a b text last : List ℕ) → Unique (ghash h (cut (a ++ b) ++ (cut text ++ (last ∷ []))))

@@ -1,12 +1,11 @@
 -- Decryption undoes encryption, both ways, for every mode whose two directions fit each other: the laws of specs/Laws.antt, of any such mode.
 -- Assumes nothing.
 use mathlib.Core.Path.{_≡_, refl, sym, ap, ap₂, subst, _∙_}
-use mathlib.Core.Bool.{Bool, true, false, not}
+use mathlib.Core.Bool.{Bool, true, false}
 use mathlib.Core.Logic.{_↔_}
-use mathlib.Core.List.{List, [], _∷_, _++_}
-use Prim.Native.Nat.{ℕ, _+_, _≤_}
+use mathlib.Core.List.{List, _++_}
+use Prim.Native.Nat.{ℕ, _+_}
 use native.Mathlib.Omega.{arith}
-use borrow.Author.Tests.{le-ltb}
 use lib.ListN.{length, take, drop, length-append}
 use lib.Seq.{take-at, drop-at}
 use Rattle.octets.specs.Bytes.{Bytes}
@@ -15,10 +14,10 @@ use Rattle.octets.specs.Lent.{lowest, over, answer}
 use Rattle.octets.proofs.Same.{same-equal, same-refl}
 use Rattle.octets.proofs.Lent.{over-injective, one-answer}
 use Rattle.octets.proofs.Unique.{unique}
-use Rattle.modes.specs.Mode.{Mode, sealed}
-use Rattle.modes.specs.Calls.{encryptAnswer, decryptAnswer}
+use Rattle.modes.specs.Mode.{Mode}
+use Rattle.modes.specs.Calls.{tagTests, encryptAnswer, decryptAnswer}
 use Rattle.modes.specs.Laws.{Keyed, EncryptsTo, InRange, DecryptsTo, DecryptsExactly, OnePlaintext, ElseNine, SealedLength, EncryptsInRange, Lawful}
-use Rattle.modes.proofs.Numbers.{wrongSizes-right, tooLong-short, encrypt-zero, opened-wrong, opened-right, decrypt-in-range}
+use Rattle.modes.proofs.Numbers.{wrongSizes-right, arguments-pass, encrypt-done, opened-wrong, opened-right, decrypt-in-range}
 
 -- how a mode's two directions fit: for every key and IV, and every text of a length that it permits, the plaintext undoes the ciphertext and back,
 -- and a tag is authentic exactly where it is the tag
@@ -58,7 +57,7 @@ module _ (m : Mode) (fit : Fitting m) where
   permits-size s t e h = ap (m .permits) e ∙ h
 
   module _ (key iv a b c t out : List ℕ) (inside : InRange m key iv a b c t out) where
-    decided : decryptAnswer m key iv a b c t out ≡ answer (lowest ((9, not (m .authentic key iv (a ++ b) c t)) ∷ [])) (m .plaintext key iv c) out
+    decided : decryptAnswer m key iv a b c t out ≡ answer (lowest (tagTests (m .authentic key iv (a ++ b) c t))) (m .plaintext key iv c) out
     decided =
         decrypt-in-range m key iv a b c t out (inside .keyed .key-size) (inside .keyed .iv-size) (inside .permitted) (inside .tag-size)
         (inside .data-fits) (inside .text-fits) (inside .room)
@@ -137,8 +136,8 @@ module _ (m : Mode) (fit : Fitting m) where
 
   encrypts-in-range : EncryptsInRange m
   encrypts-in-range key iv a b p out key-size iv-size permitted data-fits text-fits room =
-      encrypt-zero m key iv a b p out (wrongSizes-right m key iv p key-size iv-size permitted) (tooLong-short a b p data-fits text-fits)
-      (le-ltb (length out) (length p + m .tagSize) room)
+      encrypt-done m key iv a b p out
+      (sym (arguments-pass _ a b p (length p + m .tagSize) (length out) (wrongSizes-right m key iv p key-size iv-size permitted) data-fits text-fits room)) refl
 
   pub fitting-lawful : Lawful m
   fitting-lawful =

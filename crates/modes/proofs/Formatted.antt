@@ -2,32 +2,30 @@
 -- Assumes nothing.
 use mathlib.Core.Path.{_≡_, refl, sym, ap, ap₂, _∙_}
 use mathlib.Core.Bool.{Bool, true, false, not, false≢true}
-use mathlib.Core.List.{List, [], _∷_, _++_}
-use Prim.Native.Nat.{ℕ, suc, _+_, _-_, _/_, _%_, _≤_}
-use native.Mathlib.Nat.{div-one}
+use mathlib.Core.List.{List, [], _∷_, _++_, append-nil}
+use Prim.Native.Nat.{ℕ, suc, _+_, _-_, _%_, _≤_}
 use native.Mathlib.Omega.{arith}
 use borrow.Author.Tests.{eq-eqb, ne-eqb}
 use lib.Dec.{eqb, lit<, lit≤}
-use lib.ListN.{length, getD, take, drop, length-append}
+use lib.ListN.{length, getD, set, take, drop, replicate, length-append}
 use lib.Seq.{take-at}
-use Rattle.octets.specs.Values.{values}
 use Rattle.octets.specs.BigEndian.{be}
 use Rattle.octets.specs.Bytes.{Bytes}
 use Rattle.octets.specs.Xor.{xors}
 use Rattle.octets.specs.Same.{same}
-use Rattle.octets.specs.Lent.{over}
+use Rattle.octets.specs.Lent.{lowest, over, answer}
 use Rattle.octets.specs.Blocks.{cut, chain}
 use Rattle.octets.specs.Running.{absorb, close}
-use Rattle.octets.proofs.Values.{values-list}
 use Rattle.octets.proofs.Bytes.{bytes-cons}
 use Rattle.octets.proofs.Xor.{length-xors, xors-cancel}
 use Rattle.octets.proofs.Same.{same-equal, same-refl, same-differ}
 use Rattle.octets.proofs.Blocks.{cut-next, chain-append, length-chain}
 use Rattle.octets.proofs.Running.{absorb-append, close-chain}
+use Rattle.modes.specs.Calls.{tagTests}
 use Rattle.modes.specs.Counter.{counterBlock, ctr, frontOf}
 use Rattle.modes.specs.Ccm.{flags, firstBlock, dataBlocks, mac, front, firstPad, text, tagOf, tagRight}
 use Rattle.modes.proofs.Stream.{length-ctr, ctr-ctr, bytes-ctr}
-use Rattle.octets.proofs.Lent.{over-then}
+use Rattle.octets.proofs.Lent.{over-fits, over-then}
 
 -- ---- the first block and the counter blocks' front
 
@@ -41,12 +39,15 @@ pub firstBlock-parts : (iv a b : List ℕ) (n : ℕ) → flags (not (eqb (length
 unfolding firstBlock
 firstBlock-parts iv a b n = rw (length-append a b)
 
--- byte by byte
-pub first-bytes : (iv : List ℕ) (n : ℕ) → length iv ≡ 12 → values (λ k. getD iv k 0) 0 12 ++ n / 65536 % 256 ∷ n / 256 % 256 ∷ n % 256 ∷ [] ≡ iv ++ be 3 n
-first-bytes iv n size = rw (div-one n) (ap (λ (l : List ℕ). l ++ n / 65536 % 256 ∷ n / 256 % 256 ∷ n % 256 ∷ []) (values-list iv 0 12 size))
+-- counter block n with the flags v in the place of its first byte
+pub first-stored : (base : List ℕ) (n v : ℕ) → length base ≡ 16 → set (counterBlock 3 (frontOf false base) n) 0 v ≡ v ∷ (drop 1 (frontOf false base) ++ be 3 n)
+first-stored [] n v size = absurd (omega arith)
+first-stored (x ∷ base) n v size = refl
 
-pub front-bytes : (iv : List ℕ) → length iv ≡ 12 → 2 ∷ (values (λ k. getD iv k 0) 0 12 ++ 0 ∷ 0 ∷ 0 ∷ []) ≡ front iv ++ be 3 0
-front-bytes iv size = ap (λ (l : List ℕ). 2 ∷ (l ++ 0 ∷ 0 ∷ 0 ∷ [])) (values-list iv 0 12 size)
+-- the nonce over zeros, after the flags
+pub front-stored : (iv : List ℕ) {ys : List ℕ} → length iv ≡ 12 → ys ≡ over iv (replicate 15 0) → 2 ∷ (ys ++ []) ≡ front iv ++ be 3 0
+front-stored iv {ys} size e =
+    ap (λ (l : List ℕ). 2 ∷ l) (append-nil ys ∙ e ∙ over-fits iv (replicate 15 0) (omega arith) ∙ ap (λ (n : ℕ). iv ++ drop n (replicate 15 0)) size)
 
 pub front-base : (iv : List ℕ) → length iv ≡ 12 → frontOf false (front iv ++ be 3 0) ≡ front iv
 front-base iv size = take-at (front iv) (be 3 0) 13 (ap suc size)
@@ -98,11 +99,6 @@ module _ (f : List ℕ → List ℕ) (size : (x : List ℕ) → length (f x) ≡
   unfolding text
   bytes-text bytes hv = bytes-ctr f bytes 3 (bytes-cons (lit< tt) hv) 1
 
-  -- from the counter blocks' front as the code has it
-  pub text-counted : (s base : List ℕ) → length iv ≡ 12 → base ≡ front iv ++ be 3 0 → text f iv s ≡ ctr f 3 (frontOf false base) 1 s
-  unfolding text
-  text-counted s base h eb = ap (λ (l : List ℕ). ctr f 3 l 1 s) (sym (ap (frontOf false) eb ∙ front-base iv h))
-
 -- ---- the tag
 
 -- one string with k is the other exactly where it is the other with k
@@ -129,21 +125,51 @@ module _ (f : List ℕ → List ℕ) (size : (x : List ℕ) → length (f x) ≡
       same-moved t (mac f iv a (text f iv c)) (firstPad f iv) (omega (arith, size (counterBlock 3 (front iv) 0)))
       (omega (arith, length-mac (text f iv c), size (counterBlock 3 (front iv) 0)))
 
-  -- the state z before the plaintext, m after it, and the pad added
-  pub tag-steps : (p z m pad r : List ℕ) → z ≡ chain f (f (firstBlock iv a (length p))) (dataBlocks a) → m ≡ chain f z (cut p)
-      → pad ≡ firstPad f iv → r ≡ xors m pad → r ≡ tagOf f iv a p
+-- ---- from the counter blocks' front as the code has it: the state y before the plaintext, z after it, and its sum with S0
+
+module _ (f : List ℕ → List ℕ) (size : (x : List ℕ) → length (f x) ≡ 16) (iv a : List ℕ) {base : List ℕ} (h : length iv ≡ 12) (eb : base ≡ front iv ++ be 3 0) where
+  front-is : frontOf false base ≡ front iv
+  front-is = ap (frontOf false) eb ∙ front-base iv h
+
+  text-counted : (s : List ℕ) → text f iv s ≡ ctr f 3 (frontOf false base) 1 s
+  unfolding text
+  text-counted s = ap (λ (l : List ℕ). ctr f 3 l 1 s) (sym front-is)
+
+  tag-steps : (p : List ℕ) {y z r : List ℕ} → y ≡ chain f (f (firstBlock (drop 1 (frontOf false base)) a (length p))) (dataBlocks a) → z ≡ chain f y (cut p)
+      → r ≡ xors z (f (counterBlock 3 (frontOf false base) 0)) → r ≡ tagOf f iv a p
   unfolding mac tagOf
-  tag-steps p z m pad r ez em ep er =
-      er ∙ ap₂ xors (em ∙ ap (λ (y : List ℕ). chain f y (cut p)) ez ∙ sym (chain-append f (f (firstBlock iv a (length p))) (dataBlocks a) (cut p))) ep
+  tag-steps p ey ez er =
+      er
+      ∙ ap₂ (λ (z l : List ℕ). xors z (f (counterBlock 3 l 0)))
+      (ez
+      ∙ ap (λ (y : List ℕ). chain f y (cut p)) (ey ∙ ap (λ (l : List ℕ). chain f (f (firstBlock (drop 1 l) a (length p))) (dataBlocks a)) front-is)
+      ∙ sym (chain-append f (f (firstBlock iv a (length p))) (dataBlocks a) (cut p)))
+      front-is
 
--- ---- the ciphertext over the front of the output, and the tag after it
-
-module _ (f : List ℕ → List ℕ) (size : (x : List ℕ) → length (f x) ≡ 16) (iv a p : List ℕ) where
-  pub sealed-steps : (base tag out out₁ ys : List ℕ) → length iv ≡ 12 → length p + 16 ≤ length out
-      → base ≡ front iv ++ be 3 0 → tag ≡ tagOf f iv a p → out₁ ≡ over (ctr f 3 (frontOf false base) 1 p) out
+  -- the ciphertext over the front of the output, and the tag after it
+  pub sealed-steps : (p out : List ℕ) {y z tag out₁ ys : List ℕ} → length p + 16 ≤ length out
+      → y ≡ chain f (f (firstBlock (drop 1 (frontOf false base)) a (length p))) (dataBlocks a) → z ≡ chain f y (cut p)
+      → out₁ ≡ over (ctr f 3 (frontOf false base) 1 p) out → tag ≡ xors z (f (counterBlock 3 (frontOf false base) 0))
       → ys ≡ over tag (take (length out₁ - length p) (drop (length p) out₁))
-      → take (length p) out₁ ++ (ys ++ drop (length out₁ - length p) (drop (length p) out₁)) ≡ over (text f iv p ++ tagOf f iv a p) out
-  sealed-steps base tag out out₁ ys h fits eb et eo ey =
-      over-then (text f iv p) (tagOf f iv a p) out out₁ ys (length p) (length-text f size iv p) (omega (arith, length-tagOf f size iv a p))
-      (eo ∙ ap (λ (l : List ℕ). over l out) (sym (text-counted f size iv p base h eb)))
-      (ey ∙ ap (λ (t : List ℕ). over t (take (length out₁ - length p) (drop (length p) out₁))) et)
+      → answer 0 (text f iv p ++ tagOf f iv a p) out ≡ (0, take (length p) out₁ ++ (ys ++ drop (length out₁ - length p) (drop (length p) out₁)))
+  sealed-steps p out {out₁ = out₁} fits ey ez eo et es =
+      ap (λ (l : List ℕ). (0, l))
+      (sym
+      (over-then (text f iv p) (tagOf f iv a p) out out₁ _ (length p) (length-text f size iv p) (omega (arith, length-tagOf f size iv a p))
+      (eo ∙ ap (λ (l : List ℕ). over l out) (sym (text-counted p)))
+      (es ∙ ap (λ (t : List ℕ). over t (take (length out₁ - length p) (drop (length p) out₁))) (tag-steps p ey ez et))))
+
+  -- the tag of the plaintext that a ciphertext gives decides, and then its text is written
+  pub opened-steps : (c t out : List ℕ) {y z right : List ℕ} {n : ℕ} {x : ℕ × List ℕ} → length t ≡ 16
+      → y ≡ chain f (f (firstBlock (drop 1 (frontOf false base)) a (length c))) (dataBlocks a) → z ≡ chain f y (cut (ctr f 3 (frontOf false base) 1 c))
+      → right ≡ xors z (f (counterBlock 3 (frontOf false base) 0)) → n ≡ lowest (tagTests (same t right))
+      → answer n (ctr f 3 (frontOf false base) 1 c) out ≡ x → answer (lowest (tagTests (tagRight f iv a c t))) (text f iv c) out ≡ x
+  opened-steps c t out {y} {right = right} ht ey ez er en e =
+      ap₂ (λ (k : ℕ) (s : List ℕ). answer k s out)
+      (ap (λ (b : Bool). lowest (tagTests b)) (tagRight-same f size iv a c t ht ∙ ap (same t) (sym whole)) ∙ sym en) (text-counted c)
+      ∙ e
+    where
+      whole : right ≡ tagOf f iv a (text f iv c)
+      whole =
+          tag-steps (text f iv c) (ey ∙ ap (λ (n : ℕ). chain f (f (firstBlock (drop 1 (frontOf false base)) a n)) (dataBlocks a)) (sym (length-text f size iv c)))
+          (ez ∙ ap (λ (s : List ℕ). chain f y (cut s)) (sym (text-counted c))) er

@@ -3,11 +3,11 @@
 use mathlib.Core.Path.{_≡_, sym, ap, ap₂, _∙_}
 use mathlib.Core.Bool.{Bool, true, false}
 use mathlib.Core.List.{List, [], _∷_, _++_, append-assoc}
-use Prim.Native.Nat.{ℕ, suc, _+_, _*_, _/_, _%_, _≤_, _<_}
+use Prim.Native.Nat.{ℕ, suc, _+_, _*_, _/_, _%_, _≤_}
 use native.Mathlib.Nat.{mod-lt}
 use native.Mathlib.Omega.{arith}
 use lib.Dec.{lit<}
-use lib.ListN.{length, take, drop, length-append, length-drop}
+use lib.ListN.{length, getD, take, length-append}
 use lib.Seq.{take-at, length-take-le}
 use Rattle.octets.specs.Bytes.{Bytes}
 use Rattle.octets.specs.BigEndian.{be}
@@ -21,8 +21,8 @@ use Rattle.aes_fast.specs.Start.{withLast, startBy, cipherFrom}
 use Rattle.aes_fast.specs.declared.start.Start.{Start}
 use Rattle.aes_fast.proofs.Laws.{from-start}
 use Rattle.modes.specs.Counter.{counterBlock, ctr, width, frontOf}
-use Rattle.modes.specs.Pads.{Serves}
-use Rattle.modes.proofs.Stream.{ctr-last, ctr-next}
+use Rattle.modes.specs.Pads.{padOf, Sized, Serves}
+use Rattle.modes.proofs.Stream.{ctr-last, ctr-same}
 
 -- ---- the last byte of a counter block
 
@@ -41,16 +41,14 @@ pub counterBlock-last : (wide : Bool) (base : List ℕ) (j k : ℕ) → length b
 counterBlock-last true base j k size same = block-last 3 (take 12 base) j k (omega (arith, length-take-le 12 base (omega arith))) same
 counterBlock-last false base j k size same = block-last 2 (take 13 base) j k (omega (arith, length-take-le 13 base (omega arith))) same
 
--- ---- the counter k at place `at` of a group of n bytes from counter i on
-
-module _ (i k at n : ℕ) (counted : 16 * k ≡ 16 * i + at) (fits : n + 16 * (i % 256) ≤ 4096) where
-  pub group-same : at < n → k / 256 ≡ i / 256
-  group-same h = omega arith
-
-  pub group-low : at + 32 ≤ n → k % 256 + 1 ≤ 255
-  group-low h = omega (arith, group-same (omega arith))
-
 -- ---- a start
+
+module _ (t : Tables) (ks : List State) where
+  pub pad-counter : (s : Start) (j : ℕ) → padOf t ks s (counterBlock 1 [] j) ≡ cipherFrom t ks s (j % 256)
+  pad-counter s j = ap (cipherFrom t ks s) low
+    where
+      low : j / 1 % 256 % 256 ≡ j % 256
+      low = omega arith
 
 module _ {t : Tables} {ks : List State} where
   pub start-serves : Ready t ks → (wide : Bool) (base b : List ℕ) (s : Start) (k : ℕ) → length base ≡ 16 → Bytes b → length b ≡ 16
@@ -69,19 +67,27 @@ module _ {t : Tables} {ks : List State} where
     pub serves-also : (j : ℕ) → j / 256 ≡ k / 256 → Serves t ks w front s j
     serves-also j same = record { pads = λ i e. serves .pads i (e ∙ same) }
 
-    -- two blocks with the pads of counters j and j + 1
-    pub pair-served : ((x : List ℕ) → length (cipher ks x) ≡ 16) → (j : ℕ) (text out : List ℕ) → length text ≡ 32 → j % 256 + 1 ≤ 255 → j / 256 ≡ k / 256
-        → out ≡ xors (take 16 text) (cipherFrom t ks s (j % 256)) ++ xors (drop 16 text) (cipherFrom t ks s (j % 256 + 1))
-        → out ≡ ctr (cipher ks) w front j text
-    pair-served size j text out long fits same is =
-        is
-        ∙ ap₂ (λ (a b : List ℕ). xors (take 16 text) a ++ xors (drop 16 text) b) (serves .pads j same)
-        (ap (cipherFrom t ks s) next ∙ serves .pads (j + 1) (later ∙ same))
-        ∙ ap (λ (l : List ℕ). xors (take 16 text) (cipher ks (counterBlock w front j)) ++ l) (sym (ctr-last (cipher ks) size w front (j + 1) (drop 16 text) (omega (arith, length-drop 16 text))))
-        ∙ sym (ctr-next (cipher ks) size w front j text (omega arith))
+    -- its pads have 16 bytes, as the counter's last byte runs through the group
+    pub serves-sized : ((x : List ℕ) → length (cipher ks x) ≡ 16) → Sized (padOf t ks s)
+    serves-sized size x =
+        ap (λ (n : ℕ). length (cipherFrom t ks s n)) (last (getD x 0 0)) ∙ ap length (serves .pads (member (getD x 0 0)) (same (getD x 0 0))) ∙ size _
       where
-        next : j % 256 + 1 ≡ (j + 1) % 256
-        next = omega arith
+        member : ℕ → ℕ
+        member n = k / 256 * 256 + n % 256
 
-        later : (j + 1) / 256 ≡ j / 256
-        later = omega arith
+        last : (n : ℕ) → n % 256 ≡ member n % 256
+        last n = omega arith
+
+        same : (n : ℕ) → member n / 256 ≡ k / 256
+        same n = omega arith
+
+    -- and they are those of a text whose counters, from k on, stay within the group
+    pub serves-text : (text : List ℕ) → length text + 16 * (k % 256) ≤ 4096 → ctr (padOf t ks s) 1 [] k text ≡ ctr (cipher ks) w front k text
+    serves-text text fits = ctr-same (padOf t ks s) (cipher ks) 1 w [] front k text (λ j le lt. pad-counter t ks s j ∙ serves .pads j (omega arith))
+
+-- ---- a block or less with the pad of counter j, modulo 256
+
+module _ (t : Tables) (ks : List State) (s : Start) (size : Sized (padOf t ks s)) (j : ℕ) (text : List ℕ) where
+  pub single-added : {pad out : List ℕ} → length text ≤ 16 → pad ≡ cipherFrom t ks s (j % 256) → out ≡ xors text pad → out ≡ ctr (padOf t ks s) 1 [] j text
+  single-added short ep is =
+      is ∙ ap (xors text) (ep ∙ sym (pad-counter t ks s j)) ∙ sym (ctr-last (padOf t ks s) size 1 [] j text short)

@@ -1,10 +1,8 @@
 mod Written
-mod Bytewise
 pub mod Limits
 pub mod Stream
 mod Grouped
 mod Beside
-pub mod Chained
 pub mod Formatted
 pub mod Opened
 pub mod Numbers

@@ -1,12 +1,12 @@
--- The counter block as the code writes it, and the tests of lengths and of the counter field.
+-- The counter block as the code writes it, groups of counters, and the tests of lengths and of the counter field.
 -- Assumes nothing.
-use mathlib.Core.Path.{_≡_, refl, sym, ap, ap₂, _∙_}
+use mathlib.Core.Path.{_≡_, refl, ap, ap₂, _∙_}
 use mathlib.Core.Bool.{Bool, true, false, not}
 use mathlib.Core.List.{List, [], _∷_, _++_, append-nil}
-use Prim.Native.Nat.{ℕ, _+_, _-_, _/_, _%_, _^_, _≤_, _<_}
+use Prim.Native.Nat.{ℕ, _+_, _-_, _*_, _/_, _%_, _^_, _≤_, _<_}
 use native.Mathlib.Nat.{div-one}
 use native.Mathlib.Omega.{arith}
-use borrow.Author.Tests.{ltb-true, ltb-false, leb-true, leb-false, lt-ltb, le-ltb, le-leb}
+use borrow.Author.Tests.{leb-true, leb-false, lt-ltb, le-ltb, le-leb}
 use lib.Dec.{ltb, leb, lit≤}
 use lib.ListN.{length, set, take, drop, length-set, drop-of-length-le}
 use lib.Seq.{sets-eq, set-split, take-set-le, drop-at, length-take-le}
@@ -40,15 +40,23 @@ module _ (base : List ℕ) (i : ℕ) (size : length base ≡ 16) where
       ∙ take-set-le 12 base 13 (i / 65536 % 256) (lit≤ tt))
       (ap (drop 13) narrow-stored ∙ drop-at (take 13 base) (i / 65536 % 256 ∷ i / 256 % 256 ∷ i % 256 ∷ []) 13 (length-take-le 13 base (omega arith))))
 
--- ---- tests
+-- ---- groups of counters that differ in the last byte alone, and blocks that are left from place `at` on
 
--- a sum's limit, tested without the sum
-pub ltb-less : (o t m : ℕ) → t ≤ o → ltb (o - t) m ≡ ltb o (t + m)
-ltb-less o t m h = go (ltb (o - t) m) refl
-  where
-    go : (b : Bool) → ltb (o - t) m ≡ b → b ≡ ltb o (t + m)
-    go true e = sym (lt-ltb o (t + m) (omega (arith, ltb-true (o - t) m e)))
-    go false e = sym (le-ltb o (t + m) (omega (arith, ltb-false (o - t) m e)))
+module _ (k : ℕ) where
+  pub group-some : 0 < 256 - k % 256
+  group-some = omega arith
+
+  pub group-fits : (n : ℕ) → n ≤ 16 * (256 - k % 256) → n + 16 * (k % 256) ≤ 4096
+  group-fits n h = omega arith
+
+module _ (at n : ℕ) where
+  pub block-within : 16 ≤ n - at → at + 16 ≤ n
+  block-within h = omega arith
+
+  pub pair-within : 32 ≤ n - at → (at + 16 ≤ n) × (at + 16 + 16 ≤ n)
+  pair-within h = (omega arith, omega arith)
+
+-- ---- tests
 
 -- a maximum is passed by the associated data, or else by the text
 module _ (a b s : List ℕ) where

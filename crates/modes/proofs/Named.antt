@@ -1,32 +1,89 @@
--- The mode that a byte names: what holds of each mode holds of it.
+-- The mode that a byte names: what holds of each mode holds of it; and each mode's calls, under the schedule of the key, are its.
 -- Assumes nothing.
-use mathlib.Core.Path.{_≡_, refl, ap}
-use mathlib.Core.Bool.{Bool, true, false}
-use Prim.Native.Nat.{ℕ}
+use mathlib.Core.Path.{_≡_, refl, sym, ap, _∙_}
+use mathlib.Core.Bool.{Bool, true, false, _||_}
+use mathlib.Core.List.{List, _++_}
+use Prim.Native.Nat.{ℕ, _+_, _≤_}
 use borrow.Author.Tests.{eq-eqb, ne-eqb}
 use lib.Dec.{eqb}
-use Rattle.octets.specs.Lent.{when}
-use Rattle.modes.specs.Mode.{Mode}
-use Rattle.modes.specs.Ccm.{ccm}
-use Rattle.modes.specs.Gcm.{gcm}
+use lib.ListN.{length}
+use Rattle.octets.specs.Lent.{when, isNot, lowest, answer}
+use Rattle.octets.proofs.Tests.{or-left, or-right}
+use Rattle.octets.proofs.Lent.{isNot-false}
+use Rattle.aes.specs.State.{State}
+use Rattle.aes.specs.Cipher.{cipher}
+use Rattle.aes.specs.KeyExpansion.{schedule}
+use Rattle.modes.specs.Mode.{Mode, sealed}
+use Rattle.modes.specs.Ccm as c
+use Rattle.modes.specs.Gcm as g
 use Rattle.modes.specs.Modes.{modeOf}
+use Rattle.modes.specs.Calls.{dataMax, textMax, wrongSizes, argumentTests, tagTests, encryptTests}
+use Rattle.modes.proofs.Numbers.{arguments-passed}
 
-pub each-mode : (Holds : Mode → Type 0) → Holds gcm → Holds ccm → (u : ℕ) → Holds (modeOf u)
-each-mode Holds g c u = go (eqb u 2)
+pub each-mode : (Holds : Mode → Type 0) → Holds g.gcm → Holds c.ccm → (u : ℕ) → Holds (modeOf u)
+each-mode Holds second first u = go (eqb u 2)
   where
-    go : (second : Bool) → Holds (when second gcm ccm)
-    go true = g
-    go false = c
+    go : (named : Bool) → Holds (when named g.gcm c.ccm)
+    go true = second
+    go false = first
 
 module _ (u : ℕ) where
-  pub names-gcm : u ≡ 2 → modeOf u ≡ gcm
-  names-gcm e = ap (λ (second : Bool). when second gcm ccm) (eq-eqb u 2 e)
-
-  pub names-ccm : (u ≡ 2 → ⊥) → modeOf u ≡ ccm
-  names-ccm e = ap (λ (second : Bool). when second gcm ccm) (ne-eqb u 2 e)
+  -- ---- lengths
 
   pub named-ivSize : 12 ≡ modeOf u .ivSize
   named-ivSize = each-mode (λ (m : Mode). 12 ≡ m .ivSize) refl refl u
 
   pub named-tagSize : 16 ≡ modeOf u .tagSize
   named-tagSize = each-mode (λ (m : Mode). 16 ≡ m .tagSize) refl refl u
+
+  pub named-sizes : (key iv s : List ℕ) → (isNot 32 key || isNot 12 iv) ≡ wrongSizes (modeOf u) key iv s
+  named-sizes key iv s = each-mode (λ (m : Mode). (isNot 32 key || isNot 12 iv) ≡ wrongSizes m key iv s) refl refl u
+
+  module _ (key iv s : List ℕ) (right : wrongSizes (modeOf u) key iv s ≡ false) where
+    sizes : (isNot 32 key || isNot 12 iv) ≡ false
+    sizes = named-sizes key iv s ∙ right
+
+    pub named-key : length key ≡ 32
+    named-key = isNot-false 32 key (or-left (isNot 32 key) (isNot 12 iv) sizes)
+
+    pub named-iv : length iv ≡ 12
+    named-iv = isNot-false 12 iv (or-right (isNot 32 key) (isNot 12 iv) sizes)
+
+  -- ---- what passing the tests of the arguments says
+
+  module _ (key iv a b s : List ℕ) (room : ℕ) where
+    pub encrypt-passed : lowest (encryptTests (modeOf u) key iv a b s room) ≡ 0
+        → (length key ≡ 32) × (length iv ≡ 12) × (length a + length b ≤ dataMax) × (length s ≤ textMax) × (length s + 16 ≤ room)
+    encrypt-passed none =
+        let passed = arguments-passed (wrongSizes (modeOf u) key iv s) a b s (length s + modeOf u .tagSize) room none in
+        (named-key key iv s (passed .sizes), named-iv key iv s (passed .sizes), passed .data-fits, passed .text-fits, rw (named-tagSize) (passed .room-fits))
+
+    pub decrypt-passed : (t : List ℕ) → lowest (argumentTests (wrongSizes (modeOf u) key iv s || isNot (modeOf u .tagSize) t) a b s (length s) room) ≡ 0
+        → (length key ≡ 32) × (length iv ≡ 12) × (length a + length b ≤ dataMax) × (length s ≤ textMax) × (length t ≡ 16) × (length s ≤ room)
+    decrypt-passed t none =
+        let passed = arguments-passed (wrongSizes (modeOf u) key iv s || isNot (modeOf u .tagSize) t) a b s (length s) room none in
+        let sizes = or-left (wrongSizes (modeOf u) key iv s) (isNot (modeOf u .tagSize) t) (passed .sizes) in
+        let tag = or-right (wrongSizes (modeOf u) key iv s) (isNot (modeOf u .tagSize) t) (passed .sizes) in
+        (named-key key iv s sizes, named-iv key iv s sizes, passed .data-fits, passed .text-fits, isNot-false (modeOf u .tagSize) t tag ∙ sym named-tagSize, passed .room-fits)
+
+  -- ---- calls, with the round keys of a copy k of the key
+
+  module _ {ks : List State} {k : List ℕ} (key iv a s out : List ℕ) (made : ks ≡ schedule k) (copied : k ≡ key) where
+    keys : ks ≡ schedule key
+    keys = made ∙ ap schedule copied
+
+    pub gcm-sealed : {x : ℕ × List ℕ} → u ≡ 2 → answer 0 (g.text (cipher ks) iv s ++ g.tagOf (cipher ks) iv a (g.text (cipher ks) iv s)) out ≡ x
+        → answer 0 (sealed (modeOf u) key iv a s) out ≡ x
+    gcm-sealed e h = rw (eq-eqb u 2 e) (rw keys at h)
+
+    pub ccm-sealed : {x : ℕ × List ℕ} → (u ≡ 2 → ⊥) → answer 0 (c.text (cipher ks) iv s ++ c.tagOf (cipher ks) iv a s) out ≡ x → answer 0 (sealed (modeOf u) key iv a s) out ≡ x
+    ccm-sealed e h = rw (ne-eqb u 2 e) (rw keys at h)
+
+    module _ (t : List ℕ) where
+      pub gcm-opened : {x : ℕ × List ℕ} → u ≡ 2 → answer (lowest (tagTests (g.tagRight (cipher ks) iv a s t))) (g.text (cipher ks) iv s) out ≡ x
+          → answer (lowest (tagTests (modeOf u .authentic key iv a s t))) (modeOf u .plaintext key iv s) out ≡ x
+      gcm-opened e h = rw (eq-eqb u 2 e) (rw keys at h)
+
+      pub ccm-opened : {x : ℕ × List ℕ} → (u ≡ 2 → ⊥) → answer (lowest (tagTests (c.tagRight (cipher ks) iv a s t))) (c.text (cipher ks) iv s) out ≡ x
+          → answer (lowest (tagTests (modeOf u .authentic key iv a s t))) (modeOf u .plaintext key iv s) out ≡ x
+      ccm-opened e h = rw (ne-eqb u 2 e) (rw keys at h)

@@ -1,130 +1,126 @@
--- The numbers of a mode called by itself, for any mode: each refusal by the tests that led there, 0 with the result, and what a test that was passed says of the lengths.
+-- The numbers of a mode called by itself, for any mode: what the arguments alone decide, what passing their tests says of the lengths, and the answer then.
 -- Assumes nothing.
-use mathlib.Core.Path.{_≡_, sym, ap, ap₂, _∙_}
+use mathlib.Core.Path.{_≡_, refl, sym, ap, ap₂, _∙_}
 use mathlib.Core.Bool.{Bool, true, false, not, _||_}
 use mathlib.Core.List.{List, [], _∷_, _++_}
-use Prim.Native.Nat.{ℕ, _+_, _≤_, _<_}
-use native.Mathlib.Omega.{arith}
-use borrow.Author.Tests.{eqb-true, ltb-false, not-false, eq-eqb, ne-eqb, le-ltb}
+use Prim.Native.Nat.{ℕ, _+_, _≤_}
+use native.Mathlib.Nat.{add-zero}
+use borrow.Author.Tests.{ltb-false, eq-eqb, ne-eqb, le-ltb}
 use lib.Dec.{eqb, ltb}
 use lib.ListN.{length}
-use Rattle.octets.specs.Lent.{isNot, lowest, over, answer}
-use Rattle.octets.proofs.Tests.{or-left, or-right}
-use Rattle.octets.proofs.Lent.{isNot-false, isNot-right, answer-refused}
+use Rattle.octets.specs.Lent.{Tests, when, isNot, lowest, over, answer}
+use Rattle.octets.proofs.Tests.{or-left, or-right, and-right}
+use Rattle.octets.proofs.Lent.{isNot-right, answer-refused, none-applies, numbered}
 use Rattle.modes.specs.Mode.{Mode, sealed}
-use Rattle.modes.specs.Calls.{dataMax, textMax, wrongSizes, tooLong, encryptNumber, encryptAnswer, decryptNumber, decryptAnswer}
+use Rattle.modes.specs.Calls.{dataMax, textMax, wrongSizes, tooLong, argumentTests, tagTests, encryptTests, encryptNumber, encryptAnswer, decryptNumber, decryptAnswer}
+
+-- ---- tests after others
+
+lowest-refused : (ns ts : Tests) → (lowest ns ≡ 0 → ⊥) → lowest (ns ++ ts) ≡ lowest ns
+lowest-refused [] ts some = absurd (some refl)
+lowest-refused (n ∷ ns) ts some = go (n .1) some (lowest-refused ns ts)
+  where
+    go : (t : Bool) → (when t (n .0) (lowest ns) ≡ 0 → ⊥) → ((lowest ns ≡ 0 → ⊥) → lowest (ns ++ ts) ≡ lowest ns)
+        → when t (n .0) (lowest (ns ++ ts)) ≡ when t (n .0) (lowest ns)
+    go true h later = refl
+    go false h later = later h
+
+lowest-passed : (ns ts : Tests) → numbered ns ≡ true → lowest ns ≡ 0 → lowest (ns ++ ts) ≡ lowest ts
+lowest-passed [] ts h none = refl
+lowest-passed (n ∷ ns) ts h none =
+    let first : n .1 ≡ false = none-applies (n ∷ ns) 0 h none in
+    rw first (lowest-passed ns ts (and-right (not (eqb (n .0) 0)) (numbered ns) h) (rw first at none))
 
 -- ---- a number that is handed on with the output after it
 
-module _ (n : ℕ) (s out : List ℕ) where
-  pub answer-zero : (after : List ℕ) → n ≡ 0 → after ≡ over s out → answer n s out ≡ (n, after)
-  answer-zero after e ea = rw (ea, e)
+pub answer-none : (n : ℕ) (s out : List ℕ) {x : ℕ × List ℕ} → n ≡ 0 → (0, over s out) ≡ x → answer n s out ≡ x
+answer-none n s out e h = rw e h
 
-  pub answer-other : 0 < n → answer n s out ≡ (n, out)
-  answer-other h = answer-refused n s out (ne-eqb n 0 (λ e. omega arith))
+pub answer-other : (n : ℕ) (s out : List ℕ) → (n ≡ 0 → ⊥) → answer n s out ≡ (n, out)
+answer-other n s out some = answer-refused n s out (ne-eqb n 0 some)
 
--- ---- what a test that was passed says, and the test that a length passes
-
-module _ (n k : ℕ) (key iv : List ℕ) where
-  module _ (right : (isNot n key || isNot k iv) ≡ false) where
-    pub key-right : length key ≡ n
-    key-right = isNot-false n key (or-left (isNot n key) (isNot k iv) right)
-
-    pub iv-right : length iv ≡ k
-    iv-right = isNot-false k iv (or-right (isNot n key) (isNot k iv) right)
-
-  pub sizes-right : length key ≡ n → length iv ≡ k → (isNot n key || isNot k iv) ≡ false
-  sizes-right ek ev = rw (eq-eqb (length key) n ek, eq-eqb (length iv) k ev)
+-- ---- the arguments: what passing their tests says, and what passes them
 
 pub wrongSizes-right : (m : Mode) (key iv s : List ℕ) → length key ≡ m .keySize → length iv ≡ m .ivSize → m .permits (length s) ≡ true → wrongSizes m key iv s ≡ false
 wrongSizes-right m key iv s ek ev es = rw (es, eq-eqb (length key) (m .keySize) ek, eq-eqb (length iv) (m .ivSize) ev)
 
-module _ (a b s : List ℕ) where
-  module _ (short : tooLong a b s ≡ false) where
+module _ (wrong : Bool) (a b s : List ℕ) (needed room : ℕ) where
+  pub record Passed : Type 0 where
+    pub sizes : wrong ≡ false
     pub data-fits : length a + length b ≤ dataMax
-    data-fits = ltb-false dataMax (length a + length b) (or-left (ltb dataMax (length a + length b)) (ltb textMax (length s)) short)
-
     pub text-fits : length s ≤ textMax
-    text-fits = ltb-false textMax (length s) (or-right (ltb dataMax (length a + length b)) (ltb textMax (length s)) short)
+    pub room-fits : needed ≤ room
 
-  pub tooLong-short : length a + length b ≤ dataMax → length s ≤ textMax → tooLong a b s ≡ false
-  tooLong-short ha hs = rw (le-ltb dataMax (length a + length b) ha, le-ltb textMax (length s) hs)
+  pub arguments-passed : lowest (argumentTests wrong a b s needed room) ≡ 0 → Passed
+  arguments-passed none =
+      record {
+        sizes = none-applies (argumentTests wrong a b s needed room) 0 refl none;
+        data-fits = ltb-false dataMax (length a + length b) (or-left (ltb dataMax (length a + length b)) (ltb textMax (length s)) short);
+        text-fits = ltb-false textMax (length s) (or-right (ltb dataMax (length a + length b)) (ltb textMax (length s)) short);
+        room-fits = ltb-false room needed (none-applies (argumentTests wrong a b s needed room) 2 refl none);
+      }
+    where
+      short : tooLong a b s ≡ false
+      short = none-applies (argumentTests wrong a b s needed room) 1 refl none
+
+  pub arguments-pass : wrong ≡ false → length a + length b ≤ dataMax → length s ≤ textMax → needed ≤ room → lowest (argumentTests wrong a b s needed room) ≡ 0
+  arguments-pass sizes ha hs hr = rw (sizes, le-ltb dataMax (length a + length b) ha, le-ltb textMax (length s) hs, le-ltb room needed hr)
 
 -- ---- encryption
 
 module _ (m : Mode) (key iv a b p out : List ℕ) where
-  pub encrypt-two : wrongSizes m key iv p ≡ true → encryptAnswer m key iv a b p out ≡ (2, out)
-  unfolding encryptAnswer encryptNumber
-  encrypt-two wrong = rw wrong
+  -- the number as the code finds it
+  pub encrypt-tested : {wrong : Bool} {more n : ℕ} → wrong ≡ wrongSizes m key iv p → more ≡ m .tagSize
+      → n ≡ lowest (argumentTests wrong a b p (length p + more) (length out)) → n ≡ lowest (encryptTests m key iv a b p (length out))
+  encrypt-tested ew em e = e ∙ ap₂ (λ (w : Bool) (k : ℕ). lowest (argumentTests w a b p (length p + k) (length out))) ew em
 
-  module _ (right : wrongSizes m key iv p ≡ false) where
-    pub encrypt-four : tooLong a b p ≡ true → encryptAnswer m key iv a b p out ≡ (4, out)
+  module _ {n : ℕ} (tested : n ≡ lowest (encryptTests m key iv a b p (length out))) where
+    pub encrypt-refused : (n ≡ 0 → ⊥) → encryptAnswer m key iv a b p out ≡ (n, out)
     unfolding encryptAnswer encryptNumber
-    encrypt-four long = rw (right, long)
+    encrypt-refused some = rw (← tested) (answer-other n (sealed m key iv (a ++ b) p) out some)
 
-    module _ (short : tooLong a b p ≡ false) where
-      pub encrypt-five : ltb (length out) (length p + m .tagSize) ≡ true → encryptAnswer m key iv a b p out ≡ (5, out)
-      unfolding encryptAnswer encryptNumber
-      encrypt-five narrow = rw (right, short, narrow)
-
-      module _ (room : ltb (length out) (length p + m .tagSize) ≡ false) where
-        pub encrypt-zero : encryptAnswer m key iv a b p out ≡ (0, over (sealed m key iv (a ++ b) p) out)
-        unfolding encryptAnswer encryptNumber
-        encrypt-zero = rw (right, short, room)
-
-        -- with copies of the key and of the IV
-        pub encrypt-done : (k v after : List ℕ) → k ≡ key → v ≡ iv → after ≡ over (sealed m k v (a ++ b) p) out → encryptAnswer m key iv a b p out ≡ (0, after)
-        encrypt-done k v after ek ev e =
-            encrypt-zero ∙ ap (λ (l : List ℕ). (0, l)) (sym (e ∙ ap₂ (λ (k v : List ℕ). over (sealed m k v (a ++ b) p) out) ek ev))
+    pub encrypt-done : n ≡ 0 → encryptAnswer m key iv a b p out ≡ answer 0 (sealed m key iv (a ++ b) p) out
+    unfolding encryptAnswer encryptNumber
+    encrypt-done none = ap (λ (k : ℕ). answer k (sealed m key iv (a ++ b) p) out) (sym tested ∙ none)
 
 -- ---- decryption
 
--- 9, or 0 with the plaintext
-module _ (right : Bool) (s out : List ℕ) where
-  pub opened-wrong : right ≡ false → answer (lowest ((9, not right) ∷ [])) s out ≡ (9, out)
-  opened-wrong e = rw e
-
-  pub opened-right : right ≡ true → answer (lowest ((9, not right) ∷ [])) s out ≡ (0, over s out)
-  opened-right e = rw e
-
 module _ (m : Mode) (key iv a b c t out : List ℕ) where
-  pub decrypt-two : wrongSizes m key iv c ≡ true → decryptAnswer m key iv a b c t out ≡ (2, out)
-  unfolding decryptAnswer decryptNumber
-  decrypt-two wrong = rw wrong
+  abbrev wrong-any : Bool
+  wrong-any = wrongSizes m key iv c || isNot (m .tagSize) t
 
-  module _ (right : wrongSizes m key iv c ≡ false) where
-    pub decrypt-two-tag : isNot (m .tagSize) t ≡ true → decryptAnswer m key iv a b c t out ≡ (2, out)
+  pub decrypt-tested : {wrong : Bool} {n : ℕ} → wrong ≡ wrong-any
+      → n ≡ lowest (argumentTests wrong a b c (length c + 0) (length out)) → n ≡ lowest (argumentTests wrong-any a b c (length c) (length out))
+  decrypt-tested ew e = e ∙ ap₂ (λ (w : Bool) (k : ℕ). lowest (argumentTests w a b c k (length out))) ew (add-zero (length c))
+
+  module _ {n : ℕ} (tested : n ≡ lowest (argumentTests wrong-any a b c (length c) (length out))) where
+    pub decrypt-refused : (n ≡ 0 → ⊥) → decryptAnswer m key iv a b c t out ≡ (n, out)
     unfolding decryptAnswer decryptNumber
-    decrypt-two-tag wrong = rw (right, wrong)
+    decrypt-refused some =
+        ap (λ (k : ℕ). answer k (m .plaintext key iv c) out) (lowest-refused (argumentTests wrong-any a b c (length c) (length out)) (tagTests (m .authentic key iv (a ++ b) c t)) (λ z. some (tested ∙ z)) ∙ sym tested)
+        ∙ answer-other n (m .plaintext key iv c) out some
 
-    module _ (tag-right : isNot (m .tagSize) t ≡ false) where
-      pub decrypt-four : tooLong a b c ≡ true → decryptAnswer m key iv a b c t out ≡ (4, out)
-      unfolding decryptAnswer decryptNumber
-      decrypt-four long = rw (right, tag-right, long)
+    -- the tag decides
+    pub decrypt-done : n ≡ 0 → decryptAnswer m key iv a b c t out ≡ answer (lowest (tagTests (m .authentic key iv (a ++ b) c t))) (m .plaintext key iv c) out
+    unfolding decryptAnswer decryptNumber
+    decrypt-done none =
+        ap (λ (k : ℕ). answer k (m .plaintext key iv c) out) (lowest-passed (argumentTests wrong-any a b c (length c) (length out)) (tagTests (m .authentic key iv (a ++ b) c t)) refl (sym tested ∙ none))
 
-      module _ (short : tooLong a b c ≡ false) where
-        pub decrypt-five : ltb (length out) (length c) ≡ true → decryptAnswer m key iv a b c t out ≡ (5, out)
-        unfolding decryptAnswer decryptNumber
-        decrypt-five narrow = rw (right, tag-right, short, narrow)
-
-        module _ (room : ltb (length out) (length c) ≡ false) where
-          -- what the tag decides
-          pub decrypt-opened : decryptAnswer m key iv a b c t out ≡ answer (lowest ((9, not (m .authentic key iv (a ++ b) c t)) ∷ [])) (m .plaintext key iv c) out
-          unfolding decryptAnswer decryptNumber
-          decrypt-opened = rw (right, tag-right, short, room)
-
-          -- with copies of the key and of the IV
-          pub decrypt-done : (k v : List ℕ) (x : ℕ × List ℕ) → k ≡ key → v ≡ iv
-              → answer (lowest ((9, not (m .authentic k v (a ++ b) c t)) ∷ [])) (m .plaintext k v c) out ≡ x → decryptAnswer m key iv a b c t out ≡ x
-          decrypt-done k v x ek ev e =
-              decrypt-opened
-              ∙ sym (ap₂ (λ (k v : List ℕ). answer (lowest ((9, not (m .authentic k v (a ++ b) c t)) ∷ [])) (m .plaintext k v c) out) ek ev)
-              ∙ e
-
-  -- in range the tag decides
+  -- in range
   pub decrypt-in-range : length key ≡ m .keySize → length iv ≡ m .ivSize → m .permits (length c) ≡ true → length t ≡ m .tagSize
       → length a + length b ≤ dataMax → length c ≤ textMax → length c ≤ length out
-      → decryptAnswer m key iv a b c t out ≡ answer (lowest ((9, not (m .authentic key iv (a ++ b) c t)) ∷ [])) (m .plaintext key iv c) out
+      → decryptAnswer m key iv a b c t out ≡ answer (lowest (tagTests (m .authentic key iv (a ++ b) c t))) (m .plaintext key iv c) out
   decrypt-in-range key-size iv-size permitted tag-size data-short text-short fits =
-      decrypt-opened (wrongSizes-right m key iv c key-size iv-size permitted) (isNot-right _ t tag-size) (tooLong-short a b c data-short text-short)
-      (le-ltb (length out) (length c) fits)
+      decrypt-done (sym (arguments-pass wrong-any a b c (length c) (length out) right data-short text-short fits)) refl
+    where
+      right : wrong-any ≡ false
+      right = rw (wrongSizes-right m key iv c key-size iv-size permitted, isNot-right (m .tagSize) t tag-size)
+
+-- ---- 9, or 0 with the plaintext
+
+module _ (right : Bool) (s out : List ℕ) where
+  pub opened-wrong : right ≡ false → answer (lowest (tagTests right)) s out ≡ (9, out)
+  opened-wrong e = rw e
+
+  pub opened-right : right ≡ true → answer (lowest (tagTests right)) s out ≡ (0, over s out)
+  opened-right e = rw e

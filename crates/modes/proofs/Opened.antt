@@ -1,40 +1,18 @@
 -- The blocks of a plaintext that a ciphertext gives on the way, chained and written nowhere, for any f whose every value has 16 bytes.
 -- Assumes nothing.
-use mathlib.Core.Path.{_≡_, refl, sym, ap, ap₂, _∙_}
+use mathlib.Core.Path.{_≡_, sym, ap, ap₂, _∙_}
 use mathlib.Core.List.{List, [], _∷_}
-use Prim.Native.Nat.{ℕ, zero, suc, _+_, _≤_, _<_}
-use native.Mathlib.Nat.{zero-add, le-of-suc-le-suc, not-suc-le-zero}
+use Prim.Native.Nat.{ℕ, _+_, _≤_}
 use native.Mathlib.Omega.{arith}
-use lib.Bits.{bitXor}
-use lib.ListN.{length, getD, set, take, drop, length-drop}
+use lib.ListN.{length, take, drop, length-drop}
 use lib.Seq.{drop-drop, take-at, drop-at, length-take-le}
 use Rattle.octets.specs.Xor.{xors}
-use Rattle.octets.specs.Blocks.{cut, chain}
-use Rattle.octets.specs.Running.{addFrom}
+use Rattle.octets.specs.Blocks.{fill, cut, chain}
 use Rattle.octets.proofs.Values.{cons-equal}
 use Rattle.octets.proofs.Xor.{length-xors}
 use Rattle.octets.proofs.Blocks.{cut-nil, cut-short, cut-next}
-use Rattle.octets.proofs.Running.{addFrom-zero, addFrom-turn, addFrom-end}
 use Rattle.modes.specs.Counter.{counterBlock, ctr}
 use Rattle.modes.proofs.Stream.{length-ctr, ctr-nil, ctr-last, ctr-next}
-
--- ---- a sum added to the state byte by byte
-
-getD-xors : (a b : List ℕ) (j : ℕ) → j < length a → j < length b → getD (xors a b) j 0 ≡ bitXor (getD a j 0) (getD b j 0)
-getD-xors [] b j h k = absurd (not-suc-le-zero h)
-getD-xors (x ∷ a) [] j h k = absurd (not-suc-le-zero k)
-getD-xors (x ∷ a) (y ∷ b) zero h k = refl
-getD-xors (x ∷ a) (y ∷ b) (suc j) h k = getD-xors a b j (le-of-suc-le-suc h) (le-of-suc-le-suc k)
-
-module _ (y c pad : List ℕ) (j : ℕ) (size : length y ≡ 16) (pad-size : length pad ≡ 16) where
-  pub sum-turn : j < length c → length c < 16
-      → addFrom (j + 1) (set y j (bitXor (getD y j 0) (bitXor (getD c j 0) (getD pad j 0)))) (drop (j + 1) (xors c pad)) ≡ addFrom j y (drop j (xors c pad))
-  sum-turn h le =
-      simp (zero-add, getD-xors c pad j h (omega arith)) at
-      (addFrom-turn 0 y (xors c pad) j (omega (arith, length-xors c pad (omega arith))) (omega arith))
-
-  pub sum-end : length c ≤ j → j ≤ 16 → length c ≤ 16 → addFrom j y (drop j (xors c pad)) ≡ y
-  sum-end h le short = simp zero-add at (addFrom-end 0 y (xors c pad) j (omega (arith, length-xors c pad (omega arith))) (omega arith) size)
 
 -- ---- the chain along the plaintext
 
@@ -67,12 +45,13 @@ module _ (f : List ℕ → List ℕ) (size : (x : List ℕ) → length (f x) ≡
   opened-none y [] i h = sym (ap (λ (l : List ℕ). chain f y (cut l)) (ctr-nil f w front i) ∙ ap (chain f y) cut-nil)
   opened-none y (x ∷ s) i h = absurd (omega arith)
 
-  -- a last part that is shorter than a block
-  pub opened-last : (y s : List ℕ) (i : ℕ) → (length s ≡ 0 → ⊥) → length s < 16
-      → f (addFrom 0 y (xors s (f (counterBlock w front i)))) ≡ chain f y (cut (ctr f w front i s))
-  opened-last y s i some short =
-      ap f (addFrom-zero y (xors s (f (counterBlock w front i))))
-      ∙ sym (ap (chain f y) (ap cut (ctr-last f size w front i s (omega arith)) ∙ cut-short (xors s (f (counterBlock w front i))) (omega (arith, sized, some)) (omega (arith, sized))))
+  -- a last part, of a block or less: with its pad, and filled
+  pub opened-last : (y s : List ℕ) (i : ℕ) {pad x b r : List ℕ} → (length s ≡ 0 → ⊥) → length s ≤ 16 → pad ≡ f (counterBlock w front i) → x ≡ fill (xors s pad)
+      → b ≡ xors y x → r ≡ f b → r ≡ chain f y (cut (ctr f w front i s))
+  opened-last y s i {pad} some short ep ex eb er =
+      er
+      ∙ ap f (eb ∙ ap (xors y) (ex ∙ ap fill is))
+      ∙ sym (ap (chain f y) (cut-short (ctr f w front i s) (omega (arith, length-ctr f size w front i s, some)) (omega (arith, length-ctr f size w front i s))))
     where
-      sized : length (xors s (f (counterBlock w front i))) ≡ length s
-      sized = length-xors s (f (counterBlock w front i)) (omega (arith, size (counterBlock w front i)))
+      is : xors s pad ≡ ctr f w front i s
+      is = ap (xors s) ep ∙ sym (ctr-last f size w front i s short)

@@ -2,11 +2,11 @@
 -- Assumes nothing.
 use mathlib.Core.Path.{_≡_, refl, sym, ap, ap₂, _∙_}
 use mathlib.Core.List.{List, [], _∷_, _++_, append-assoc, append-nil}
-use Prim.Native.Nat.{ℕ, zero, suc, _+_, _-_, _*_, _≤_, _<_}
+use Prim.Native.Nat.{ℕ, zero, suc, _+_, _-_, _*_, _/_, _≤_, _<_, min}
 use native.Mathlib.Nat.{add-zero}
 use native.Mathlib.Numerals.{add-one}
 use native.Mathlib.Omega.{arith}
-use lib.ListN.{length, take, drop, length-append, length-drop, take-append-drop, drop-of-length-le}
+use lib.ListN.{length, take, drop, length-append, length-take, length-drop, take-append-drop, drop-of-length-le}
 use lib.Seq.{length-take-le, take-append-le, drop-append-le}
 use Rattle.octets.specs.Values.{values}
 use Rattle.octets.specs.Bytes.{Bytes}
@@ -96,6 +96,20 @@ module _ (f : List ℕ → List ℕ) (size : (x : List ℕ) → length (f x) ≡
         ap (λ (n : ℕ). xors (ctr f w front i s) (stream f (values (counterBlock w front) i (blocks n)))) (length-ctr i s)
         ∙ xors-cancel s (stream f (values (counterBlock w front) i (blocks (length s)))) (enough i s)
 
+-- ---- the same counters, by another cipher and another front
+
+stream-same : (f g : List ℕ → List ℕ) (v w : ℕ) (front back : List ℕ) (i n : ℕ)
+    → ((k : ℕ) → i ≤ k → k < i + n → f (counterBlock v front k) ≡ g (counterBlock w back k))
+    → stream f (values (counterBlock v front) i n) ≡ stream g (values (counterBlock w back) i n)
+stream-same f g v w front back i zero h = refl
+stream-same f g v w front back i (suc n) h =
+    ap₂ (λ (a b : List ℕ). a ++ b) (h i (omega arith) (omega arith)) (stream-same f g v w front back (suc i) n (λ k le lt. h k (omega arith) (omega arith)))
+
+pub ctr-same : (f g : List ℕ → List ℕ) (v w : ℕ) (front back : List ℕ) (i : ℕ) (s : List ℕ)
+    → ((k : ℕ) → i ≤ k → k < i + blocks (length s) → f (counterBlock v front k) ≡ g (counterBlock w back k)) → ctr f v front i s ≡ ctr g w back i s
+unfolding ctr
+ctr-same f g v w front back i s h = ap (xors s) (stream-same f g v w front back i (blocks (length s)) h)
+
 -- ---- bytes, where the cipher makes bytes of bytes
 
 module _ (f : List ℕ → List ℕ) (bytes : (x : List ℕ) → Bytes x → Bytes (f x)) (w : ℕ) {front : List ℕ} (front-bytes : Bytes front) where
@@ -123,14 +137,24 @@ module _ {f : List ℕ → List ℕ} {w : ℕ} {front : List ℕ} {i : ℕ} {s b
   pub partly-start : Partly f w front i s before 0 i before
   partly-start = record { inside = omega arith; room = refl; counted = omega arith; written = refl; kept = refl }
 
-  -- an output that is partly written is one to write the rest into
-  pub partly-again : {at k : ℕ} {out : List ℕ} → Partly f w front i s before at k out → Partly f w front i s out at k out
-  partly-again p = record { inside = p .inside; room = refl; counted = p .counted; written = p .written; kept = refl }
+  -- a place of the text is one of the output
+  pub partly-room : {at k e : ℕ} {out : List ℕ} → Partly f w front i s before at k out → length s ≤ length before → e ≤ length s → e ≤ length out
+  partly-room p fits h = omega (arith, p .room)
 
-  -- a part of it from there on, as it is lent
-  pub partly-part : {at k : ℕ} {out : List ℕ} → Partly f w front i s before at k out → length s ≤ length before → (e : ℕ) → e ≤ length s
-      → length (take (e - at) (drop at out)) ≡ e - at
-  partly-part {at} {k} {out} p fits e le = part-length out at e (omega (arith, p .room))
+  -- b bytes of the text from there on, or all that there is, and the part of the output for them, as they are lent
+  pub partly-lent : {at k : ℕ} {out : List ℕ} → Partly f w front i s before at k out → length s ≤ length before → (b e : ℕ) → at < length s
+      → e ≡ at + min b (length s - at)
+      → (length (take (e - at) (drop at s)) ≤ b) × (length (take (e - at) (drop at out)) ≡ length (take (e - at) (drop at s)))
+  partly-lent {at} {k} {out} p fits b e less end =
+      let text = part-length s at e (omega arith) in
+      (omega (arith, text), part-length out at e (omega (arith, p .room)) ∙ sym text)
+
+  -- all that is left
+  pub partly-rest : {at k : ℕ} {out : List ℕ} → Partly f w front i s before at k out → length s ≤ length before
+      → (length (take (length s - at) (drop at s)) ≡ length s - at) × (length (take (length s - at) (drop at out)) ≡ length (take (length s - at) (drop at s)))
+  partly-rest {at} {k} {out} p fits =
+      let text = part-length s at (length s) (omega arith) in
+      (text, part-length out at (length s) (omega (arith, p .room)) ∙ sym text)
 
   module _ {at k : ℕ} {out : List ℕ} (p : Partly f w front i s before at k out) (fits : length s ≤ length before) (size : (x : List ℕ) → length (f x) ≡ 16) where
     -- m blocks more, or all that there is, up to place e
@@ -175,16 +199,6 @@ module _ {f : List ℕ → List ℕ} {w : ℕ} {front : List ℕ} {i : ℕ} {s b
     long : length (ctr f w front i s) ≡ length s
     long = length-ctr f size w front i s
 
-    -- writing all over it is writing all over what was there before
-    pub partly-over : over (ctr f w front i s) out ≡ over (ctr f w front i s) before
-    partly-over =
-        over-fits (ctr f w front i s) out (omega (arith, p .room, long))
-        ∙ ap (λ (l : List ℕ). ctr f w front i s ++ l)
-        (sym (drop-part out at (length (ctr f w front i s)) (omega (arith, p .inside, long)))
-        ∙ ap (drop (length (ctr f w front i s) - at)) (p .kept)
-        ∙ drop-part before at (length (ctr f w front i s)) (omega (arith, p .inside, long)))
-        ∙ sym (over-fits (ctr f w front i s) before (omega (arith, long)))
-
     -- after the last part
     pub partly-end : length s ≤ at → out ≡ over (ctr f w front i s) before
     partly-end ge =
@@ -198,3 +212,28 @@ module _ {f : List ℕ → List ℕ} {w : ℕ} {front : List ℕ} {i : ℕ} {s b
 
         end : at ≡ length (ctr f w front i s)
         end = omega (arith, p .inside, long)
+
+    -- a block more
+    pub partly-block : {pad after : List ℕ} → at + 16 ≤ length s → pad ≡ f (counterBlock w front k)
+        → after ≡ take at out ++ (xors (take 16 (drop at s)) pad ++ drop 16 (drop at out)) → Partly f w front i s before (at + 16) (k + 1) after
+    partly-block {pad} {after} more ep is =
+        rw (is ∙ ap (λ (n : ℕ). take at out ++ (xors (take 16 (drop at s)) pad ++ drop n (drop at out))) (sym one))
+        (partly-turn 1 (at + 16) (omega arith) more (λ h. refl)
+        (ap (xors (take 16 (drop at s))) ep
+        ∙ sym (ctr-last f size w front k (take 16 (drop at s)) (omega (arith, length-take 16 (drop at s))))
+        ∙ ap (λ (n : ℕ). ctr f w front k (take n (drop at s))) (sym one)))
+      where
+        one : at + 16 - at ≡ 16
+        one = omega arith
+
+    -- b blocks more, or all that there is
+    pub partly-most : (b e m : ℕ) {ys : List ℕ} → at < length s → 0 < b → e ≡ at + min (16 * b) (length s - at) → m ≡ (e - at + 15) / 16
+        → ys ≡ ctr f w front k (take (e - at) (drop at s)) → Partly f w front i s before e (k + m) (take at out ++ (ys ++ drop (e - at) (drop at out)))
+    partly-most b e m less some end count is = partly-turn m e (omega arith) (omega arith) (λ h. omega arith) is
+
+  -- and all that is left, as it is lent and comes back
+  pub partly-last : {at k : ℕ} {out : List ℕ} → Partly f w front i s before at k out → length s ≤ length before → ((x : List ℕ) → length (f x) ≡ 16)
+      → {ys : List ℕ} → ys ≡ ctr f w front k (take (length s - at) (drop at s))
+      → take at out ++ (ys ++ drop (length s - at) (drop at out)) ≡ over (ctr f w front i s) before
+  partly-last {at} p fits size is =
+      partly-end (partly-turn p fits size (length s - at) (length s) (omega (arith, p .inside)) (omega arith) (λ h. omega arith) is) fits size (omega arith)

@@ -4,56 +4,47 @@ use mathlib.Core.Path.{_≡_, refl, sym, ap, ap₂, _∙_}
 use mathlib.Core.Bool.{true}
 use mathlib.Core.List.{List, [], _∷_, _++_}
 use lib.Dec.{lit≤}
-use Prim.Native.Nat.{ℕ, _+_, _*_, _≤_}
-use lib.ListN.{length, getD, length-append}
+use Prim.Native.Nat.{ℕ, _+_, _-_, _*_, _≤_}
+use native.Mathlib.Omega.{arith}
+use lib.ListN.{length, take, drop, replicate, length-append}
 use lib.Seq.{take-at}
-use Rattle.octets.specs.Values.{values}
 use Rattle.octets.specs.BigEndian.{be}
 use Rattle.octets.specs.Bytes.{Bytes}
 use Rattle.octets.specs.Xor.{xors}
-use Rattle.octets.specs.Lent.{over}
+use Rattle.octets.specs.Same.{same}
+use Rattle.octets.specs.Lent.{lowest, over, answer}
 use Rattle.octets.specs.Blocks.{cut}
-use Rattle.octets.proofs.Values.{values-list}
+use Rattle.octets.proofs.Lent.{over-fits, over-zeros, length-over, over-front, over-then}
 use Rattle.octets.proofs.Bytes.{bytes-append, bytes-take}
 use Rattle.octets.proofs.BigEndian.{bytes-be}
 use Rattle.ghash.specs.Ghash.{zeros, ghash}
 use Rattle.ghash.proofs.Laws.{ghash-length}
 use Rattle.modes.specs.Counter.{counterBlock, ctr, counterAnswer, frontOf}
-use Rattle.modes.specs.Gcm.{inc32, hashKey, preCounter, text, lengthsBlock, tagOf}
-use Rattle.modes.specs.Calls.{textMax}
+use Rattle.modes.specs.Gcm.{inc32, hashKey, preCounter, text, lengthsBlock, tagOf, tagRight}
+use Rattle.modes.specs.Calls.{textMax, tagTests}
 use Rattle.modes.proofs.Limits.{counterFits-four, counterAnswer-fits}
 use Rattle.modes.proofs.Counted.{gctr-block, length-gctr, gctr-gctr, bytes-gctr, gctr-two}
 
--- ---- the counter blocks' front and the block of lengths, byte by byte
+-- ---- the counter blocks' front, and the block of lengths
 
-pub base-bytes : (iv : List ℕ) → length iv ≡ 12 → values (λ k. getD iv k 0) 0 12 ++ 0 ∷ 0 ∷ 0 ∷ 0 ∷ [] ≡ iv ++ be 4 0
-base-bytes iv size = ap (λ (l : List ℕ). l ++ 0 ∷ 0 ∷ 0 ∷ 0 ∷ []) (values-list iv 0 12 size)
+pub base-stored : (iv : List ℕ) → length iv ≡ 12 → over iv (replicate 16 0) ≡ iv ++ be 4 0
+base-stored iv size = over-fits iv (replicate 16 0) (omega arith) ∙ ap (λ (n : ℕ). iv ++ drop n (replicate 16 0)) size
 
 pub front-base : (iv : List ℕ) → length iv ≡ 12 → frontOf true (iv ++ be 4 0) ≡ iv
 front-base iv size = take-at iv (be 4 0) 12 size
 
-pub two-eights : (a c : List ℕ) → length a ≡ 8 → length c ≡ 8 → values (λ k. getD a k 0) 0 8 ++ values (λ k. getD c k 0) 0 8 ≡ a ++ c
-two-eights a c ea ec = ap₂ (λ (x y : List ℕ). x ++ y) (values-list a 0 8 ea) (values-list c 0 8 ec)
+-- two strings of 8 bytes, each over its half of zeros
+pub two-stored : (a b d : List ℕ) {ys : List ℕ} → length a ≡ 8 → length b ≡ 8 → d ≡ over a (replicate 16 0) → ys ≡ over b (take 8 (drop 8 d))
+    → take 8 d ++ (ys ++ drop 8 (drop 8 d)) ≡ a ++ b
+two-stored a b d {ys} ea eb first second =
+    ap (λ (k : ℕ). take 8 d ++ (ys ++ drop k (drop 8 d))) half
+    ∙ over-then a b (replicate 16 0) d ys 8 ea (omega arith) first (second ∙ ap (λ (k : ℕ). over b (take k (drop 8 d))) half)
+    ∙ over-zeros (a ++ b) 16 (length-append a b ∙ omega arith)
+  where
+    half : 8 ≡ length d - 8
+    half = omega (arith, ap length first ∙ length-over a (replicate 16 0))
 
 module _ (f : List ℕ → List ℕ) where
-  -- ---- the text
-
-  pub counter-text : (iv s base out : List ℕ) (x : ℕ × List ℕ) → length iv ≡ 12 → length s ≤ textMax → base ≡ iv ++ be 4 0
-      → counterAnswer f 4 (frontOf true base) 2 s out ≡ x → (0, over (text f iv s) out) ≡ x
-  unfolding text
-  counter-text iv s base out x size short eb e =
-      sym
-      (ap (λ (l : List ℕ). counterAnswer f 4 l 2 s out) (ap (frontOf true) eb ∙ front-base iv size)
-      ∙ counterAnswer-fits f 4 iv 2 s out (counterFits-four 2 (length s) (lit≤ tt) short)
-      ∙ ap (λ (l : List ℕ). (0, over l out)) (sym (gctr-two iv size f s (counterFits-four 2 (length s) (lit≤ tt) short))))
-      ∙ e
-
-  -- from the counter blocks' front as the code has it
-  pub text-counted : (iv s base : List ℕ) → length iv ≡ 12 → length s ≤ textMax → base ≡ iv ++ be 4 0 → text f iv s ≡ ctr f 4 (frontOf true base) 2 s
-  unfolding text
-  text-counted iv s base size short eb =
-      gctr-two iv size f s (counterFits-four 2 (length s) (lit≤ tt) short) ∙ ap (λ (l : List ℕ). ctr f 4 l 2 s) (sym (ap (frontOf true) eb ∙ front-base iv size))
-
   -- ---- the tag
 
   abbrev hashed : List ℕ → List ℕ → List ℕ
@@ -63,17 +54,16 @@ module _ (f : List ℕ → List ℕ) where
   length-hashed a c = ghash-length (hashKey f) zeros (cut a ++ (cut c ++ (lengthsBlock a c ∷ []))) refl
 
   -- the hash key h, the block of lengths, the hash s, the pad of counter 1 and the sum
-  pub tag-steps : (iv a b c h last s base block pad r : List ℕ) → length iv ≡ 12 → h ≡ hashKey f
-      → last ≡ be 8 (8 * (length a + length b)) ++ be 8 (8 * length c) → s ≡ ghash h (cut (a ++ b) ++ (cut c ++ (last ∷ [])))
-      → base ≡ iv ++ be 4 0 → block ≡ counterBlock 4 (frontOf true base) 1 → pad ≡ f block → r ≡ xors s pad → r ≡ tagOf f iv (a ++ b) c
+  pub tag-steps : (iv a b c : List ℕ) {h last s block pad r : List ℕ} → h ≡ hashKey f → last ≡ be 8 (8 * (length a + length b)) ++ be 8 (8 * length c)
+      → s ≡ ghash h (cut (a ++ b) ++ (cut c ++ (last ∷ []))) → block ≡ counterBlock 4 iv 1 → pad ≡ f block → r ≡ xors s pad → r ≡ tagOf f iv (a ++ b) c
   unfolding tagOf
-  tag-steps iv a b c h last s base block pad r size eh el es ebase eblock ep er =
+  tag-steps iv a b c eh el es eb ep er =
       er
       ∙ ap₂ xors
       (es
       ∙ ap₂ (λ (h l : List ℕ). ghash h (cut (a ++ b) ++ (cut c ++ (l ∷ [])))) eh
       (el ∙ ap (λ (n : ℕ). be 8 (8 * n) ++ be 8 (8 * length c)) (sym (length-append a b))))
-      (ep ∙ ap f (eblock ∙ ap (λ (l : List ℕ). counterBlock 4 l 1) (ap (frontOf true) ebase ∙ front-base iv size)))
+      (ep ∙ ap f eb)
       ∙ sym (gctr-block f (preCounter iv) (hashed (a ++ b) c) (length-hashed (a ++ b) c))
 
   -- ---- lengths, and the text twice
@@ -94,3 +84,47 @@ module _ (f : List ℕ → List ℕ) where
     pub length-tagOf : (a c : List ℕ) → length (tagOf f iv a c) ≡ 16
     unfolding tagOf
     length-tagOf a c = length-gctr f (preCounter iv) size (hashed a c) ∙ length-hashed a c
+
+-- ---- from the counter blocks' front as the code has it
+
+module _ (f : List ℕ → List ℕ) (size : (x : List ℕ) → length (f x) ≡ 16) (iv a : List ℕ) {base : List ℕ} (h : length iv ≡ 12) (eb : base ≡ iv ++ be 4 0) where
+  front-is : frontOf true base ≡ iv
+  front-is = ap (frontOf true) eb ∙ front-base iv h
+
+  text-counted : (s : List ℕ) → length s ≤ textMax → text f iv s ≡ ctr f 4 (frontOf true base) 2 s
+  unfolding text
+  text-counted s short = gctr-two iv h f s (counterFits-four 2 (length s) (lit≤ tt) short) ∙ ap (λ (l : List ℕ). ctr f 4 l 2 s) (sym front-is)
+
+  -- the ciphertext over the front of the output, with the number n of its counters, and its tag after it
+  pub sealed-steps : (p out : List ℕ) {tag out₁ ys : List ℕ} {n : ℕ} → length p ≤ textMax → length p + 16 ≤ length out
+      → counterAnswer f 4 (frontOf true base) 2 p out ≡ (n, out₁) → tag ≡ tagOf f (frontOf true base) a (take (length p) out₁)
+      → ys ≡ over tag (take (length out₁ - length p) (drop (length p) out₁))
+      → answer 0 (text f iv p ++ tagOf f iv a (text f iv p)) out ≡ (n, take (length p) out₁ ++ (ys ++ drop (length out₁ - length p) (drop (length p) out₁)))
+  sealed-steps p out {tag} {out₁} {ys} {n} short fits ran et es =
+      ap₂ (λ (k : ℕ) (l : List ℕ). (k, l)) (ap (λ (x : ℕ × List ℕ). x .0) counted)
+      (sym
+      (over-then (text f iv p) (tagOf f iv a (text f iv p)) out out₁ ys (length p) (length-text f size iv p)
+      (omega (arith, length-tagOf f size iv a (text f iv p))) first
+      (es ∙ ap (λ (t : List ℕ). over t (take (length out₁ - length p) (drop (length p) out₁))) tagged)))
+    where
+      counted : _≡_ {A = ℕ × List ℕ} (0, over (text f iv p) out) (n, out₁)
+      counted =
+          ap (λ (s : List ℕ). (0, over s out)) (text-counted p short)
+          ∙ sym (counterAnswer-fits f 4 (frontOf true base) 2 p out (counterFits-four 2 (length p) (lit≤ tt) short))
+          ∙ ran
+
+      first : out₁ ≡ over (text f iv p) out
+      first = sym (ap (λ (x : ℕ × List ℕ). x .1) counted)
+
+      tagged : tag ≡ tagOf f iv a (text f iv p)
+      tagged = et ∙ ap₂ (λ (v c : List ℕ). tagOf f v a c) front-is (over-front (text f iv p) out out₁ (length p) (length-text f size iv p) (omega arith) first)
+
+  -- the tag of the ciphertext decides, and then its text is written
+  pub opened-steps : (c t out : List ℕ) {right : List ℕ} {n : ℕ} {x : ℕ × List ℕ} → length c ≤ textMax → right ≡ tagOf f (frontOf true base) a c
+      → n ≡ lowest (tagTests (same t right)) → answer n (ctr f 4 (frontOf true base) 2 c) out ≡ x
+      → answer (lowest (tagTests (tagRight f iv a c t))) (text f iv c) out ≡ x
+  unfolding tagRight
+  opened-steps c t out short er en e =
+      ap₂ (λ (k : ℕ) (s : List ℕ). answer k s out)
+      (ap (λ (r : List ℕ). lowest (tagTests (same t r))) (sym (er ∙ ap (λ (v : List ℕ). tagOf f v a c) front-is)) ∙ sym en) (text-counted c short)
+      ∙ e

@@ -1,25 +1,20 @@
--- Strings read and written in parts: a copy, a block from a place, a part of the output that was lent and came back, and a sum written byte by byte.
+-- Strings written in parts: a part of the output that was lent and came back, and a sum written byte by byte.
 -- Assumes nothing.
 use mathlib.Core.Path.{_≡_, refl, sym, ap, ap₂, _∙_}
-use mathlib.Core.List.{List, _∷_, _++_, append-assoc, append-nil}
-use Prim.Native.Nat.{ℕ, suc, _+_, _-_, _≤_, _<_}
-use native.Mathlib.Nat.{add-zero}
-use native.Mathlib.Numerals.{add-one}
+use mathlib.Core.List.{List, [], _∷_, _++_, append-assoc, append-nil}
+use Prim.Native.Nat.{ℕ, zero, suc, _+_, _-_, _≤_, _<_}
+use native.Mathlib.Nat.{sub-zero, zero-sub, suc-sub-suc, le-of-suc-le-suc, not-suc-le-zero}
 use native.Mathlib.Omega.{arith}
 use lib.Bits.{bitXor}
-use lib.ListN.{length, getD, set, take, drop, length-append, length-take, length-drop, drop-of-length-le}
-use lib.Seq.{take-all, take-at, drop-at, drop-cons, drop-drop, take-suc-set, append-snoc}
-use Rattle.octets.specs.Values.{values}
+use lib.ListN.{length, getD, set, take, drop, replicate, length-append, length-take, length-drop, drop-of-length-le}
+use lib.Seq.{take-all, take-at, drop-at, drop-drop}
 use Rattle.octets.specs.Xor.{xors}
-use Rattle.octets.proofs.Values.{cons-equal, values-from, values-part}
-
--- the n + 1 bytes from place i, as they are read
-pub block-from : (s : List ℕ) (i n : ℕ) → i + suc n ≤ length s → getD s i 0 ∷ values (λ k. getD s (i + k) 0) 1 n ≡ take (suc n) (drop i s)
-block-from s i n h =
-    cons-equal (ap (λ (k : ℕ). getD s k 0) (sym (add-zero i))) refl
-    ∙ sym (values-from (λ k. getD s k 0) i 0 (suc n))
-    ∙ ap (λ (k : ℕ). values (λ k. getD s k 0) k (suc n)) (add-zero i)
-    ∙ values-part s 0 i (suc n) h
+use Rattle.octets.specs.Blocks.{fill}
+use Rattle.octets.specs.Lent.{over}
+use Rattle.octets.proofs.Xor.{length-xors}
+use Rattle.octets.proofs.Blocks.{length-fill}
+use Rattle.octets.proofs.Lent.{over-fits, over-turn}
+use Rattle.octets.proofs.Tests.{rest-all}
 
 -- from a on, and then from e on
 pub drop-part : (l : List ℕ) (a e : ℕ) → a ≤ e → drop (e - a) (drop a l) ≡ drop e l
@@ -49,21 +44,54 @@ module _ (out ys : List ℕ) (a e : ℕ) (le : a ≤ e) (fits : e ≤ length out
   pub back-length : length (take a out ++ (ys ++ drop (e - a) (drop a out))) ≡ length out
   back-length = simp (length-append, length-take, length-drop) (omega arith)
 
--- two halves of 32 bytes, lent one after the other, which came back as x and y
-pub pair-written : (out x y ys zs : List ℕ) → length out ≡ 32 → length x ≡ 16 → ys ≡ x → zs ≡ y
-    → take 16 (ys ++ drop 16 out) ++ (zs ++ drop 16 (drop 16 (ys ++ drop 16 out))) ≡ x ++ y
-pair-written out x y ys zs room hx is next =
-    rw (take-at ys (drop 16 out) 16 (ap length is ∙ hx), drop-at ys (drop 16 out) 16 (ap length is ∙ hx), drop-drop 16 16 out, drop-of-length-le out {i = 32} (omega arith), append-nil zs)
-    (ap₂ (λ (l r : List ℕ). l ++ r) is next)
+-- a block over the front of what is lent from place a on
+pub block-put : (out b : List ℕ) (a : ℕ) {ys : List ℕ} → length b ≡ 16 → a + 16 ≤ length out → ys ≡ over b (take (length out - a) (drop a out))
+    → take a out ++ (ys ++ drop (length out - a) (drop a out)) ≡ take a out ++ (b ++ drop 16 (drop a out))
+block-put out b a {ys} size fits e =
+    ap (λ (l : List ℕ). take a out ++ l)
+    (ap₂ (λ (x y : List ℕ). x ++ y) (e ∙ ap (over b) (rest-all out a) ∙ over-fits b (drop a out) (omega (arith, length-drop a out)))
+    (drop-of-length-le (drop a out) {i = length out - a} (omega (arith, length-drop a out)))
+    ∙ append-nil (b ++ drop (length b) (drop a out))
+    ∙ ap (λ (n : ℕ). b ++ drop n (drop a out)) size)
 
--- ---- a sum written byte by byte: one byte more, and after the last
+-- ---- a sum written byte by byte over zeros: the next byte, and after the last; and over an output that is as long
 
-pub xors-turn : (s pad out : List ℕ) (j : ℕ) → j < length s → j < length pad → j < length out
-    → take (j + 1) (set out j (bitXor (getD s j 0) (getD pad j 0))) ++ xors (drop (j + 1) s) (drop (j + 1) pad)
-    ≡ take j out ++ xors (drop j s) (drop j pad)
-xors-turn s pad out j hs hp ho =
-    rw (add-one, drop-cons s j 0 hs, drop-cons pad j 0 hp, take-suc-set out j (bitXor (getD s j 0) (getD pad j 0)) ho)
-    (append-snoc (take j out) (bitXor (getD s j 0) (getD pad j 0)) (xors (drop (suc j) s) (drop (suc j) pad)))
+drop-zeros : (n k : ℕ) → drop {A = ℕ} n (replicate k 0) ≡ replicate (k - n) 0
+drop-zeros zero k = rw (sub-zero k)
+drop-zeros (suc n) zero = rw (zero-sub (suc n))
+drop-zeros (suc n) (suc k) = rw (suc-sub-suc k n) (drop-zeros n k)
 
-pub xors-end : (s pad out : List ℕ) (j : ℕ) → length s ≤ j → length out ≤ j → take j out ++ xors (drop j s) (drop j pad) ≡ out
-xors-end s pad out j hs ho = rw (take-all j out ho, drop-of-length-le s {i = j} hs) (append-nil out)
+getD-xors : (a b : List ℕ) (j : ℕ) → j < length a → j < length b → getD (xors a b) j 0 ≡ bitXor (getD a j 0) (getD b j 0)
+getD-xors [] b j h k = absurd (not-suc-le-zero h)
+getD-xors (x ∷ a) [] j h k = absurd (not-suc-le-zero k)
+getD-xors (x ∷ a) (y ∷ b) zero h k = refl
+getD-xors (x ∷ a) (y ∷ b) (suc j) h k = getD-xors a b j (le-of-suc-le-suc h) (le-of-suc-le-suc k)
+
+module _ (s pad : List ℕ) (size : length pad ≡ 16) (short : length s ≤ 16) where
+  pub summed-turn : {x : List ℕ} (j : ℕ) → j < length s → x ≡ take j (xors s pad) ++ drop j (replicate 16 0)
+      → set x j (bitXor (getD s j 0) (getD pad j 0)) ≡ take (j + 1) (xors s pad) ++ drop (j + 1) (replicate 16 0)
+  summed-turn j h e =
+      ap₂ (λ (l : List ℕ) (v : ℕ). set l j v) e (sym (getD-xors s pad j h (omega arith)))
+      ∙ over-turn (xors s pad) (replicate 16 0) j (omega (arith, length-xors s pad (omega arith))) (omega arith)
+
+  pub summed-end : {x : List ℕ} (j : ℕ) → j ≤ length s → length s ≤ j → x ≡ take j (xors s pad) ++ drop j (replicate 16 0) → x ≡ fill (xors s pad)
+  summed-end j le ge e =
+      e
+      ∙ ap₂ (λ (a b : List ℕ). a ++ b) (take-all j (xors s pad) (omega (arith, long))) (drop-zeros j 16)
+      ∙ ap (λ (n : ℕ). xors s pad ++ replicate (16 - n) 0) end
+    where
+      long : length (xors s pad) ≡ length s
+      long = length-xors s pad (omega arith)
+
+      end : j ≡ length (xors s pad)
+      end = omega (arith, long)
+
+  pub summed-put : (out : List ℕ) {x after : List ℕ} → length out ≡ length s → x ≡ fill (xors s pad) → after ≡ over x out → after ≡ xors s pad
+  summed-put out {x} room ex ea =
+      ea
+      ∙ ap₂ (λ (a b : List ℕ). a ++ b) (ap (take (length out)) ex ∙ take-at (xors s pad) (replicate (16 - length (xors s pad)) 0) (length out) (long ∙ sym room))
+      (drop-of-length-le out {i = length x} (omega (arith, ap length ex, length-fill (xors s pad) (omega (arith, long)))))
+      ∙ append-nil (xors s pad)
+    where
+      long : length (xors s pad) ≡ length s
+      long = length-xors s pad (omega arith)

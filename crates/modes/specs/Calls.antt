@@ -26,6 +26,10 @@ tooLong a b s = ltb dataMax (length a + length b) || ltb textMax (length s)
 abbrev pub argumentTests : Bool → List ℕ → List ℕ → List ℕ → ℕ → ℕ → Tests
 argumentTests wrong a b s needed room = (2, wrong) ∷ (4, tooLong a b s) ∷ (5, ltb room needed) ∷ []
 
+-- the test of the tag: `right` where it is authentic
+abbrev pub tagTests : Bool → Tests
+tagTests right = (9, not right) ∷ []
+
 -- ---- encryption
 
 abbrev pub encryptTests : Mode → List ℕ → List ℕ → List ℕ → List ℕ → List ℕ → ℕ → Tests
@@ -42,7 +46,7 @@ encryptAnswer m key iv a b p out = answer (encryptNumber m key iv a b p (length 
 abbrev pub decryptTests : Mode → List ℕ → List ℕ → List ℕ → List ℕ → List ℕ → List ℕ → ℕ → Tests
 decryptTests m key iv a b c t room =
     argumentTests (wrongSizes m key iv c || isNot (m .tagSize) t) a b c (length c) room
-    ++ ((9, not (m .authentic key iv (a ++ b) c t)) ∷ [])
+    ++ tagTests (m .authentic key iv (a ++ b) c t)
 
 unfoldable pub decryptNumber : Mode → List ℕ → List ℕ → List ℕ → List ℕ → List ℕ → List ℕ → ℕ → ℕ
 decryptNumber m key iv a b c t room = lowest (decryptTests m key iv a b c t room)

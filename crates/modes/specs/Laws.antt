@@ -1,4 +1,4 @@
--- Decryption undoes encryption, both ways, for CCM and for GCM, and each call has one answer: as statements; proofs/Laws.antt proves each.
+-- Decryption undoes encryption, both ways, and each call has one answer: as statements of any mode, which proofs/Laws.antt proves of CCM and of GCM.
 -- Assumes nothing.
 use mathlib.Core.Path.{_≡_}
 use mathlib.Core.Logic.{_↔_}
@@ -13,7 +13,7 @@ use Rattle.octets.specs.Unique.{Unique}
 use Rattle.modes.specs.Mode.{Mode, sealed}
 use Rattle.modes.specs.Modes.{modeOf}
 use Rattle.modes.specs.Counter.{ctr, counterTests}
-use Rattle.modes.specs.Calls.{dataMax, textMax, argumentTests, encryptTests, encryptAnswer, decryptTests, decryptAnswer}
+use Rattle.modes.specs.Calls.{dataMax, textMax, argumentTests, tagTests, encryptTests, encryptAnswer, decryptTests, decryptAnswer}
 
 -- counter mode twice gives the string back, whatever the cipher, where each of its blocks has 16 bytes
 abbrev pub CounterTwice : Type 0
@@ -25,6 +25,9 @@ CounterTestsRise = (w i n : ℕ) → rises (counterTests w i n) ≡ true
 
 abbrev pub ArgumentTestsRise : Type 0
 ArgumentTestsRise = (wrong : Bool) (a b s : List ℕ) (needed room : ℕ) → rises (argumentTests wrong a b s needed room) ≡ true
+
+abbrev pub TagTestsRise : Type 0
+TagTestsRise = (right : Bool) → rises (tagTests right) ≡ true
 
 module _ (m : Mode) where
   -- a key and an IV of the mode

@@ -1,8 +1,9 @@
--- What the fast way's words and starts stand for here: a word of 64 bits by its bytes, and a start that gives the pads of a group of counters.
+-- What the fast way's starts stand for here: one gives the pads of a group of counters.
 -- Assumes nothing.
 use mathlib.Core.Path.{_≡_}
 use Prim.Native.Nat.{ℕ, _/_, _%_}
-use mathlib.Core.List.{List, [], _∷_}
+use mathlib.Core.List.{List}
+use lib.ListN.{length, getD}
 use Rattle.aes.specs.State.{State}
 use Rattle.aes.specs.Cipher.{cipher}
 use Rattle.aes_fast.specs.ByTables.{Tables}
@@ -10,11 +11,13 @@ use Rattle.aes_fast.specs.Start.{cipherFrom}
 use Rattle.aes_fast.specs.declared.start.Start.{Start}
 use Rattle.modes.specs.Counter.{counterBlock}
 
--- a word of 64 bits as eight bytes, the first lowest
-unfoldable pub wordBytes : ℕ → List ℕ
-wordBytes w =
-    w % 256 ∷ w / 256 % 256 ∷ w / 65536 % 256 ∷ w / 16777216 % 256
-    ∷ w / 4294967296 % 256 ∷ w / 1099511627776 % 256 ∷ w / 281474976710656 % 256 ∷ w / 72057594037927936 % 256 ∷ []
+-- the start s by a counter's last byte, which is the block b's first: counter mode with a field of one byte and no front runs modulo 256
+abbrev pub padOf : Tables → List State → Start → List ℕ → List ℕ
+padOf t ks s b = cipherFrom t ks s (getD b 0 0 % 256)
+
+-- its every value has 16 bytes
+abbrev pub Sized : (List ℕ → List ℕ) → Type 0
+Sized f = (x : List ℕ) → length (f x) ≡ 16
 
 -- the start s gives the pad of each counter that differs from k in the last byte alone
 pub record Serves (t : Tables) (ks : List State) (w : ℕ) (front : List ℕ) (s : Start) (k : ℕ) : Type 0 where

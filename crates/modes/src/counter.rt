@@ -1,25 +1,26 @@
 // Counter mode, which CCM and GCM share: the field of a counter block is four bytes where it is wide, and else three.
-use crate::parts::block_end;
-use crate::words::add_halves;
-use crate::words::halves_at;
-use crate::words::put_halves;
 use aes_fast::encrypt_from;
 use aes_fast::encrypt_two_from;
+use aes_fast::halves::Halves;
+use aes_fast::halves::add_halves;
 use aes_fast::halves::block;
+use aes_fast::halves::halves_at;
+use aes_fast::halves::put_halves;
 use aes_fast::start::Start;
 use aes_fast::start::start_of;
+use octets::strings::put;
 ghost use mathlib.Core.Path.{_≡_};
 ghost use mathlib.Core.Bool.{true, not};
-ghost use mathlib.Core.List.{_++_};
+ghost use mathlib.Core.List.{[], _++_};
 ghost use Prim.Native.Nat.{_+_, _-_, _*_, _%_, _≤_, _<_, min};
 ghost use lib.ListN.{length, take, drop};
-ghost use Rattle.octets.specs.Blocks.{blocks};
+ghost use Rattle.octets.specs.Blocks.{fill};
 ghost use Rattle.octets.specs.Lent.{over, answer};
 ghost use Rattle.octets.specs.Xor.{xors};
 ghost use Rattle.aes.specs.Cipher.{cipher};
 ghost use Rattle.aes_fast.specs.Right.{Ready};
-ghost use Rattle.aes_fast.specs.Start.{cipherFrom};
-ghost use Rattle.modes.specs.Pads.{Serves};
+ghost use Rattle.aes_fast.specs.Halves.{halvesBlock};
+ghost use Rattle.modes.specs.Pads.{Sized, padOf, Serves};
 ghost use Rattle.modes.specs.Counter.{counterBlock, ctr, counterFits, counterAnswer, width, frontOf};
 
 pub(crate) fn counter_block(base: [u8; 16], wide: bool, i: usize) -> [u8; 16]
@@ -48,40 +49,37 @@ fn runs_over(wide: bool, i: usize, n: usize) -> bool
     16777216 < last
 }
 
-// The last part of the text, of 16 bytes or less, with its pad.
+// A last part of a text, of 16 bytes or less, with its pad, and zeros after it.
+pub(crate) fn summed(text: &[u8], pad: [u8; 16]) -> [u8; 16]
+    requires { ⌜ length (now text) ≤ 16 ⌝ }
+    ensures { λ r. ⌜ r ≡ fill (xors (now (text .entry)) pad) ⌝ }
+{
+    let mut x = [0u8; 16];
+    let mut j = 0;
+    while j < text.len() {
+        x[j] = text[j] ^ pad[j];
+        j += 1;
+    }
+    x
+}
+
+// The same over the front of an output.
 pub(crate) fn add_last(text: &[u8], pad: [u8; 16], out: &mut [u8])
     requires { ⌜ (length (now text) ≤ 16) × (length (now out) ≡ length (now text)) ⌝ }
     ensures { λ _. ⌜ now (out .exit) ≡ xors (now (text .entry)) pad ⌝ }
 {
-    let mut j = 0;
-    while j < text.len() {
-        out[j] = text[j] ^ pad[j];
-        j += 1;
-    }
+    let x = summed(text, pad);
+    put(out, &x);
 }
 
-// Two blocks of the text, with the pads that the start gives for two counters whose last bytes are `low` and the next.
-fn add_pair(
-    t: &[[u32; 256]; 4],
-    ks: &[[[u8; 4]; 4]; 15],
-    s: Start,
-    low: u8,
-    text: &[u8],
-    out: &mut [u8],
-)
-    requires { ⌜ (low < 255) × (length (now text) ≡ 32) × (length (now out) ≡ 32) ⌝ }
-    ensures { λ _. ⌜ now (out .exit) ≡ xors (take 16 (now (text .entry))) (cipherFrom (now (t .entry)) (now (ks .entry)) s low) ++ xors (drop 16 (now (text .entry))) (cipherFrom (now (t .entry)) (now (ks .entry)) s (low + 1)) ⌝ }
+// The block at place `at` of the text, with its pad, to the same place of the output.
+pub(crate) fn add_at(text: &[u8], at: usize, pad: Halves, out: &mut [u8])
+    requires { ⌜ (at + 16 ≤ length (now text)) × (at + 16 ≤ length (now out)) ⌝ }
+    ensures { λ _. ⌜ now (out .exit) ≡ take at (now (out .entry)) ++ (xors (take 16 (drop at (now (text .entry)))) (halvesBlock pad) ++ drop 16 (drop at (now (out .entry)))) ⌝ }
 {
-    let start = 0;
-    let middle = 16;
-    let end = 32;
-    let pads = encrypt_two_from(t, ks, s, low, low + 1);
-    let block = halves_at(text, start);
-    let done = add_halves(block, pads.one);
-    let later = halves_at(text, middle);
-    let later_done = add_halves(later, pads.other);
-    put_halves(&mut out[start..middle], done);
-    put_halves(&mut out[middle..end], later_done);
+    let block = halves_at(text, at);
+    let sum = add_halves(block, pad);
+    put_halves(&mut out[at..], sum);
 }
 
 // What the counters share that differ from k in the last byte alone.
@@ -98,7 +96,53 @@ pub(crate) fn start_at(
     start_of(t, ks, counter_block(base, wide, k))
 }
 
-// A text whose counters, from i on, differ in the last byte alone: two blocks at a time, and the rest a block at a time.
+// A block or less, with the pad that the start gives for counter k, modulo 256.
+fn add_single(
+    t: &[[u32; 256]; 4],
+    ks: &[[[u8; 4]; 4]; 15],
+    s: Start,
+    k: usize,
+    text: &[u8],
+    out: &mut [u8],
+)
+    requires { ⌜ Sized (padOf (now t) (now ks) s) × (length (now text) ≤ 16) × (length (now out) ≡ length (now text)) ⌝ }
+    ensures { λ _. ⌜ now (out .exit) ≡ ctr (padOf (now (t .entry)) (now (ks .entry)) s) 1 [] k (now (text .entry)) ⌝ }
+{
+    add_last(text, block(encrypt_from(t, ks, s, (k % 256) as u8)), out);
+}
+
+// The end of the block that starts at `at`: 16 bytes on, or the end of all n.
+fn block_end(at: usize, n: usize) -> usize
+    requires { ⌜ at < n ⌝ }
+    ensures { λ r. ⌜ r ≡ at + min 16 (n - at) ⌝ }
+{
+    if n - at < 16 { n } else { at + 16 }
+}
+
+// Less than two blocks, from counter i on.
+fn add_rest(
+    t: &[[u32; 256]; 4],
+    ks: &[[[u8; 4]; 4]; 15],
+    s: Start,
+    i: usize,
+    text: &[u8],
+    out: &mut [u8],
+)
+    requires { ⌜ Sized (padOf (now t) (now ks) s) × (length (now text) < 32) × (length (now out) ≡ length (now text)) × (i ≤ 9223372036854779906) ⌝ }
+    ensures { λ _. ⌜ now (out .exit) ≡ ctr (padOf (now (t .entry)) (now (ks .entry)) s) 1 [] i (now (text .entry)) ⌝ }
+{
+    let n = text.len();
+    let mut at = 0;
+    let mut k = i;
+    while at < n {
+        let end = block_end(at, n);
+        add_single(t, ks, s, k, &text[at..end], &mut out[at..end]);
+        at = end;
+        k += 1;
+    }
+}
+
+// A text whose counters, from i on, differ in the last byte alone: two blocks a call, and then what is left.
 fn group(
     t: &[[u32; 256]; 4],
     ks: &[[[u8; 4]; 4]; 15],
@@ -108,7 +152,7 @@ fn group(
     text: &[u8],
     out: &mut [u8],
 )
-    requires { ⌜ Ready (now t) (now ks) × (length (now out) ≡ length (now text)) × (length (now text) + 16 * (i % 256) ≤ 4096) × (i ≤ 2305843009213693952) ⌝ }
+    requires { ⌜ Ready (now t) (now ks) × (length (now out) ≡ length (now text)) × (length (now text) + 16 * (i % 256) ≤ 4096) × (i ≤ 9223372036854775810) ⌝ }
     ensures { λ _. ⌜ now (out .exit) ≡ ctr (cipher (now (ks .entry))) (width wide) (frontOf wide base) i (now (text .entry)) ⌝ }
 {
     let n = text.len();
@@ -116,18 +160,15 @@ fn group(
     let mut at = 0;
     let mut k = i;
     while 32 <= n - at {
-        let end = at + 32;
-        add_pair(t, ks, s, (k % 256) as u8, &text[at..end], &mut out[at..end]);
-        at = end;
-        k += 2;
+        let next = at + 16;
+        let later = k + 1;
+        let pads = encrypt_two_from(t, ks, s, (k % 256) as u8, (later % 256) as u8);
+        add_at(text, at, pads.one, out);
+        add_at(text, next, pads.other, out);
+        at = next + 16;
+        k = later + 1;
     }
-    while at < n {
-        let end = block_end(at, n);
-        let pad = block(encrypt_from(t, ks, s, (k % 256) as u8));
-        add_last(&text[at..end], pad, &mut out[at..end]);
-        at = end;
-        k += 1;
-    }
+    add_rest(t, ks, s, k, &text[at..n], &mut out[at..n]);
 }
 
 // The end of the group that starts at `at` with counter k: where the counter's last byte would come round, or the end of all n.
@@ -183,7 +224,7 @@ pub(crate) fn counter(
     0
 }
 
-// The same where the number is 0; after any other nothing is written. The number is handed on.
+// The same where the number is 0; any other is handed on, and nothing is written.
 pub(crate) fn counter_if(
     number: u8,
     t: &[[u32; 256]; 4],
@@ -198,8 +239,7 @@ pub(crate) fn counter_if(
     ensures { λ r. ⌜ answer number (ctr (cipher (now (ks .entry))) (width wide) (frontOf wide base) i (now (text .entry))) (now (out .entry)) ≡ (r, now (out .exit)) ⌝ }
 {
     if number < 1 {
-        counter(t, ks, base, wide, i, text, out);
-        return number;
+        return counter(t, ks, base, wide, i, text, out);
     }
     number
 }

@@ -2,56 +2,33 @@
 use crate::counter::counter;
 use crate::counter::counter_block;
 use crate::counter::counter_if;
-use crate::lengths::no_room;
-use crate::lengths::too_long;
-use crate::lengths::wrong_key_or_iv;
-use crate::lengths::wrong_tag;
-use crate::parts::iv_of;
-use crate::parts::key_of;
-use crate::tag::same_tag;
 use crate::tag::tag_number;
-use aes::expand_key;
-use aes_fast::round_tables;
+use aes_fast::encrypt;
 use ghash::hash::ghash_parts;
 use octets::big_endian::bytes64;
 use octets::strings::put;
 use octets::strings::xor_blocks;
 ghost use mathlib.Core.Path.{_≡_};
-ghost use mathlib.Core.Bool.{not};
-ghost use mathlib.Core.List.{[], _∷_, _++_};
+ghost use mathlib.Core.Bool.{true};
+ghost use mathlib.Core.List.{_++_};
 ghost use Prim.Native.Nat.{_+_, _*_, _≤_};
 ghost use lib.ListN.{length};
 ghost use Rattle.octets.specs.BigEndian.{be};
-ghost use Rattle.octets.specs.Lent.{lowest, over, answer};
+ghost use Rattle.octets.specs.Lent.{lowest, answer};
 ghost use Rattle.aes.specs.Cipher.{cipher};
-ghost use Rattle.aes.specs.KeyExpansion.{schedule};
 ghost use Rattle.aes_fast.specs.Right.{Ready};
-ghost use Rattle.modes.specs.Mode.{sealed};
-ghost use Rattle.modes.specs.Gcm.{text, tagOf, tagRight, gcm};
-ghost use Rattle.modes.specs.Calls.{encryptAnswer, decryptAnswer};
+ghost use Rattle.modes.specs.Calls.{tagTests};
+ghost use Rattle.modes.specs.Counter.{frontOf};
+ghost use Rattle.modes.specs.Gcm.{text, tagOf, tagRight};
 
 // The counter blocks' front, with a field of zeros.
-fn base_of(iv: [u8; 12]) -> [u8; 16]
-    ensures { λ r. ⌜ r ≡ iv ++ be 4 0 ⌝ }
+fn base_of(iv: &[u8]) -> [u8; 16]
+    requires { ⌜ length (now iv) ≡ 12 ⌝ }
+    ensures { λ r. ⌜ r ≡ now (iv .entry) ++ be 4 0 ⌝ }
 {
-    [
-        iv[0],
-        iv[1],
-        iv[2],
-        iv[3],
-        iv[4],
-        iv[5],
-        iv[6],
-        iv[7],
-        iv[8],
-        iv[9],
-        iv[10],
-        iv[11],
-        0,
-        0,
-        0,
-        0,
-    ]
+    let mut b = [0u8; 16];
+    put(&mut b, iv);
+    b
 }
 
 // The last block of the hash: both lengths in bits, 64 bits each.
@@ -61,135 +38,68 @@ fn lengths_block(a_len: usize, c_len: usize) -> [u8; 16]
 {
     let a = bytes64(8 * (a_len as u64));
     let c = bytes64(8 * (c_len as u64));
-    [
-        a[0],
-        a[1],
-        a[2],
-        a[3],
-        a[4],
-        a[5],
-        a[6],
-        a[7],
-        c[0],
-        c[1],
-        c[2],
-        c[3],
-        c[4],
-        c[5],
-        c[6],
-        c[7],
-    ]
+    let middle = 8;
+    let mut b = [0u8; 16];
+    put(&mut b, &a);
+    put(&mut b[middle..], &c);
+    b
 }
 
 // The tag of a ciphertext. The associated data is a and then b.
 fn tag_of(
     t: &[[u32; 256]; 4],
     ks: &[[[u8; 4]; 4]; 15],
-    iv: [u8; 12],
+    base: [u8; 16],
     a: &[u8],
     b: &[u8],
     c: &[u8],
 ) -> [u8; 16]
     requires { ⌜ Ready (now t) (now ks) × (length (now a) + length (now b) ≤ 4152) × (length (now c) ≤ 1048576) ⌝ }
-    ensures { λ r. ⌜ r ≡ tagOf (cipher (now (ks .entry))) iv (now (a .entry) ++ now (b .entry)) (now (c .entry)) ⌝ }
+    ensures { λ r. ⌜ r ≡ tagOf (cipher (now (ks .entry))) (frontOf true base) (now (a .entry) ++ now (b .entry)) (now (c .entry)) ⌝ }
 {
-    let h = aes_fast::encrypt(t, ks, [0u8; 16]);
+    let h = encrypt(t, ks, [0u8; 16]);
     let last = lengths_block(a.len() + b.len(), c.len());
     let s = ghash_parts(h, a, b, c, last);
-    let pad = aes_fast::encrypt(t, ks, counter_block(base_of(iv), true, 1));
+    let pad = encrypt(t, ks, counter_block(base, true, 1));
     xor_blocks(s, pad)
 }
 
-// Whether the tag is right. The test is lent no output.
-fn authentic(
+pub(crate) fn seal(
     t: &[[u32; 256]; 4],
     ks: &[[[u8; 4]; 4]; 15],
-    iv: [u8; 12],
+    iv: &[u8],
+    a: &[u8],
+    b: &[u8],
+    p: &[u8],
+    out: &mut [u8],
+) -> u8
+    requires { ⌜ Ready (now t) (now ks) × (length (now iv) ≡ 12) × (length (now a) + length (now b) ≤ 4152) × (length (now p) ≤ 1048576) × (length (now p) + 16 ≤ length (now out)) ⌝ }
+    ensures { λ r. ⌜ answer 0 (text (cipher (now (ks .entry))) (now (iv .entry)) (now (p .entry)) ++ tagOf (cipher (now (ks .entry))) (now (iv .entry)) (now (a .entry) ++ now (b .entry)) (text (cipher (now (ks .entry))) (now (iv .entry)) (now (p .entry)))) (now (out .entry)) ≡ (r, now (out .exit)) ⌝ }
+{
+    let n = p.len();
+    let base = base_of(iv);
+    let number = counter(t, ks, base, true, 2, p, out);
+    let tag = tag_of(t, ks, base, a, b, &out[..n]);
+    put(&mut out[n..], &tag);
+    number
+}
+
+// 9, or 0 with the plaintext. The output is lent on only after the tag was found right.
+pub(crate) fn open(
+    t: &[[u32; 256]; 4],
+    ks: &[[[u8; 4]; 4]; 15],
+    iv: &[u8],
     a: &[u8],
     b: &[u8],
     c: &[u8],
     tag: &[u8],
-) -> bool
-    requires { ⌜ Ready (now t) (now ks) × (length (now a) + length (now b) ≤ 4152) × (length (now c) ≤ 1048576) × (length (now tag) ≡ 16) ⌝ }
-    ensures { λ r. ⌜ r ≡ tagRight (cipher (now (ks .entry))) iv (now (a .entry) ++ now (b .entry)) (now (c .entry)) (now (tag .entry)) ⌝ }
-{
-    same_tag(tag, tag_of(t, ks, iv, a, b, c))
-}
-
-fn seal(key: [u8; 32], iv: [u8; 12], a: &[u8], b: &[u8], p: &[u8], out: &mut [u8])
-    requires { ⌜ (length (now a) + length (now b) ≤ 4152) × (length (now p) ≤ 1048576) × (length (now p) + 16 ≤ length (now out)) ⌝ }
-    ensures { λ _. ⌜ now (out .exit) ≡ over (sealed gcm key iv (now (a .entry) ++ now (b .entry)) (now (p .entry))) (now (out .entry)) ⌝ }
-{
-    let t = round_tables();
-    let ks = expand_key(key);
-    let n = p.len();
-    counter(&t, &ks, base_of(iv), true, 2, p, out);
-    let tag = tag_of(&t, &ks, iv, a, b, &out[..n]);
-    put(&mut out[n..], &tag);
-}
-
-// 9, or 0 with the plaintext. The output is lent on only after the tag was found right.
-fn open(key: [u8; 32], iv: [u8; 12], a: &[u8], b: &[u8], c: &[u8], tag: &[u8], out: &mut [u8]) -> u8
-    requires { ⌜ (length (now a) + length (now b) ≤ 4152) × (length (now c) ≤ 1048576) × (length (now tag) ≡ 16) × (length (now c) ≤ length (now out)) ⌝ }
-    ensures { λ r. ⌜ answer (lowest ((9, not (tagRight (cipher (schedule key)) iv (now (a .entry) ++ now (b .entry)) (now (c .entry)) (now (tag .entry)))) ∷ [])) (text (cipher (schedule key)) iv (now (c .entry))) (now (out .entry)) ≡ (r, now (out .exit)) ⌝ }
-{
-    let t = round_tables();
-    let ks = expand_key(key);
-    let number = tag_number(authentic(&t, &ks, iv, a, b, c, tag));
-    counter_if(number, &t, &ks, base_of(iv), true, 2, c, out)
-}
-
-// Over associated data that comes in two parts.
-pub fn encrypt_parts(key: &[u8], iv: &[u8], a: &[u8], b: &[u8], plain: &[u8], out: &mut [u8]) -> u8
-    ensures { λ r. ⌜ encryptAnswer gcm (now (key .entry)) (now (iv .entry)) (now (a .entry)) (now (b .entry)) (now (plain .entry)) (now (out .entry)) ≡ (r, now (out .exit)) ⌝ }
-{
-    if wrong_key_or_iv(key, iv) {
-        return 2;
-    }
-    if too_long(a, b, plain) {
-        return 4;
-    }
-    if no_room(out, plain, 16) {
-        return 5;
-    }
-    seal(key_of(key), iv_of(iv), a, b, plain, out);
-    0
-}
-
-pub fn decrypt_parts(
-    key: &[u8],
-    iv: &[u8],
-    a: &[u8],
-    b: &[u8],
-    text: &[u8],
-    tag: &[u8],
     out: &mut [u8],
 ) -> u8
-    ensures { λ r. ⌜ decryptAnswer gcm (now (key .entry)) (now (iv .entry)) (now (a .entry)) (now (b .entry)) (now (text .entry)) (now (tag .entry)) (now (out .entry)) ≡ (r, now (out .exit)) ⌝ }
+    requires { ⌜ Ready (now t) (now ks) × (length (now iv) ≡ 12) × (length (now a) + length (now b) ≤ 4152) × (length (now c) ≤ 1048576) × (length (now c) ≤ length (now out)) ⌝ }
+    ensures { λ r. ⌜ answer (lowest (tagTests (tagRight (cipher (now (ks .entry))) (now (iv .entry)) (now (a .entry) ++ now (b .entry)) (now (c .entry)) (now (tag .entry))))) (text (cipher (now (ks .entry))) (now (iv .entry)) (now (c .entry))) (now (out .entry)) ≡ (r, now (out .exit)) ⌝ }
 {
-    if wrong_key_or_iv(key, iv) {
-        return 2;
-    }
-    if wrong_tag(tag) {
-        return 2;
-    }
-    if too_long(a, b, text) {
-        return 4;
-    }
-    if no_room(out, text, 0) {
-        return 5;
-    }
-    open(key_of(key), iv_of(iv), a, b, text, tag, out)
-}
-
-pub fn encrypt(key: &[u8], iv: &[u8], aad: &[u8], plain: &[u8], out: &mut [u8]) -> u8
-    ensures { λ r. ⌜ encryptAnswer gcm (now (key .entry)) (now (iv .entry)) (now (aad .entry)) [] (now (plain .entry)) (now (out .entry)) ≡ (r, now (out .exit)) ⌝ }
-{
-    encrypt_parts(key, iv, aad, &aad[..0], plain, out)
-}
-
-pub fn decrypt(key: &[u8], iv: &[u8], aad: &[u8], text: &[u8], tag: &[u8], out: &mut [u8]) -> u8
-    ensures { λ r. ⌜ decryptAnswer gcm (now (key .entry)) (now (iv .entry)) (now (aad .entry)) [] (now (text .entry)) (now (tag .entry)) (now (out .entry)) ≡ (r, now (out .exit)) ⌝ }
-{
-    decrypt_parts(key, iv, aad, &aad[..0], text, tag, out)
+    let base = base_of(iv);
+    let right = tag_of(t, ks, base, a, b, c);
+    let number = tag_number(tag, &right);
+    counter_if(number, t, ks, base, true, 2, c, out)
 }

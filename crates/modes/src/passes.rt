@@ -1,22 +1,26 @@
 // CCM's passes along a text: the chain beside the counter, two blocks a call.
-use crate::chain::chain_along;
+use crate::counter::add_at;
 use crate::counter::add_last;
 use crate::counter::counter_block;
 use crate::counter::start_at;
-use crate::words::add_halves;
-use crate::words::halves_at;
-use crate::words::put_halves;
+use crate::counter::summed;
 use aes_fast::encrypt;
 use aes_fast::encrypt_beside;
+use aes_fast::encrypt_from;
 use aes_fast::halves::Both;
 use aes_fast::halves::Halves;
+use aes_fast::halves::add_halves;
 use aes_fast::halves::block;
+use aes_fast::halves::halves_at;
 use aes_fast::halves::halves_from;
 use aes_fast::start::Start;
+use cbc_mac::chain_along;
+use octets::strings::xor_blocks;
 ghost use mathlib.Core.Path.{_≡_};
 ghost use mathlib.Core.Bool.{false};
-ghost use Prim.Native.Nat.{_+_, _-_, _%_, _≤_, _<_};
-ghost use lib.ListN.{length};
+ghost use mathlib.Core.List.{_++_};
+ghost use Prim.Native.Nat.{_+_, _≤_, _<_};
+ghost use lib.ListN.{length, take, drop};
 ghost use Rattle.octets.specs.Blocks.{cut, chain};
 ghost use Rattle.octets.specs.Lent.{over};
 ghost use Rattle.octets.specs.Xor.{xors};
@@ -27,24 +31,24 @@ ghost use Rattle.aes_fast.specs.Start.{cipherFrom};
 ghost use Rattle.modes.specs.Counter.{ctr, frontOf};
 ghost use Rattle.modes.specs.Pads.{Serves};
 
-// The start for counter k, from that for the counter before it.
-pub(crate) fn renewed(
+// The start for the counter after k, from that for k.
+fn renewed(
     t: &[[u32; 256]; 4],
     ks: &[[[u8; 4]; 4]; 15],
     base: [u8; 16],
     s: Start,
     k: usize,
 ) -> Start
-    requires { ⌜ Ready (now t) (now ks) × (0 < k) × Serves (now t) (now ks) 3 (frontOf false base) s (k - 1) ⌝ }
-    ensures { λ r. ⌜ Serves (now (t .entry)) (now (ks .entry)) 3 (frontOf false base) r k ⌝ }
+    requires { ⌜ Ready (now t) (now ks) × (k ≤ 1048577) × Serves (now t) (now ks) 3 (frontOf false base) s k ⌝ }
+    ensures { λ r. ⌜ Serves (now (t .entry)) (now (ks .entry)) 3 (frontOf false base) r (k + 1) ⌝ }
 {
-    if k % 256 == 0 {
-        return start_at(t, ks, base, false, k);
+    if (k + 1) % 256 == 0 {
+        return start_at(t, ks, base, false, k + 1);
     }
     s
 }
 
-// One block of a plaintext: chained to y, and with the pad of the counter that ends with the byte `low`.
+// The block at place `at` of a plaintext: chained to y, and with the pad of the counter that ends with the byte `low`.
 fn seal_block(
     t: &[[u32; 256]; 4],
     ks: &[[[u8; 4]; 4]; 15],
@@ -52,45 +56,15 @@ fn seal_block(
     low: u8,
     y: Halves,
     p: &[u8],
+    at: usize,
     out: &mut [u8],
 ) -> Halves
-    requires { ⌜ Ready (now t) (now ks) × (length (now p) ≡ 16) × (length (now out) ≡ 16) ⌝ }
-    ensures { λ r. ⌜ (halvesBlock r ≡ cipher (now (ks .entry)) (xors (halvesBlock y) (now (p .entry)))) × (now (out .exit) ≡ xors (now (p .entry)) (cipherFrom (now (t .entry)) (now (ks .entry)) s low)) ⌝ }
+    requires { ⌜ Ready (now t) (now ks) × (at + 16 ≤ length (now p)) × (at + 16 ≤ length (now out)) ⌝ }
+    ensures { λ r. ⌜ (halvesBlock r ≡ cipher (now (ks .entry)) (xors (halvesBlock y) (take 16 (drop at (now (p .entry)))))) × (now (out .exit) ≡ take at (now (out .entry)) ++ (xors (take 16 (drop at (now (p .entry)))) (cipherFrom (now (t .entry)) (now (ks .entry)) s low) ++ drop 16 (drop at (now (out .entry))))) ⌝ }
 {
-    let x = halves_at(p, 0);
-    let both = encrypt_beside(t, ks, add_halves(y, x), s, low);
-    let done = add_halves(x, both.other);
-    put_halves(out, done);
+    let both = encrypt_beside(t, ks, add_halves(y, halves_at(p, at)), s, low);
+    add_at(p, at, both.other, out);
     both.one
-}
-
-// The whole blocks of a plaintext.
-fn seal_blocks(
-    t: &[[u32; 256]; 4],
-    ks: &[[[u8; 4]; 4]; 15],
-    base: [u8; 16],
-    y: [u8; 16],
-    p: &[u8],
-    out: &mut [u8],
-) -> [u8; 16]
-    requires { ⌜ Ready (now t) (now ks) × (length (now p) % 16 ≡ 0) × (length (now out) ≡ length (now p)) × (length (now p) ≤ 1048576) ⌝ }
-    ensures { λ r. ⌜ (r ≡ chain (cipher (now (ks .entry))) y (cut (now (p .entry)))) × (now (out .exit) ≡ ctr (cipher (now (ks .entry))) 3 (frontOf false base) 1 (now (p .entry))) ⌝ }
-{
-    let n = p.len();
-    let mut h = halves_from(y);
-    let mut at = 0;
-    let mut k = 1;
-    let mut s = start_at(t, ks, base, false, 1);
-    while at < n {
-        let end = at + 16;
-        let u = seal_block(t, ks, s, (k % 256) as u8, h, &p[at..end], &mut out[at..end]);
-        let v = renewed(t, ks, base, s, k + 1);
-        h = u;
-        s = v;
-        at = end;
-        k += 1;
-    }
-    block(h)
 }
 
 // A last part that is shorter than a block, with counter k.
@@ -127,15 +101,24 @@ pub(crate) fn seal_text(
     ensures { λ r. ⌜ (r ≡ chain (cipher (now (ks .entry))) y (cut (now (p .entry)))) × (now (out .exit) ≡ over (ctr (cipher (now (ks .entry))) 3 (frontOf false base) 1 (now (p .entry))) (now (out .entry))) ⌝ }
 {
     let n = p.len();
-    let start = 0;
-    let whole = n - n % 16;
-    let k = 1 + n / 16;
-    let x = seal_blocks(t, ks, base, y, &p[start..whole], &mut out[start..whole]);
-    seal_last(t, ks, base, k, x, &p[whole..n], &mut out[whole..n])
+    let mut h = halves_from(y);
+    let mut at = 0;
+    let mut k = 1;
+    let mut s = start_at(t, ks, base, false, 1);
+    while 16 <= n - at {
+        let u = seal_block(t, ks, s, (k % 256) as u8, h, p, at, out);
+        let v = renewed(t, ks, base, s, k);
+        h = u;
+        s = v;
+        at += 16;
+        k += 1;
+    }
+    let x = block(h);
+    seal_last(t, ks, base, k, x, &p[at..n], &mut out[at..n])
 }
 
 // One block of the plaintext that a ciphertext gives, chained to y and written nowhere, beside the pad of the counter that ends with the byte `low`.
-pub(crate) fn open_block(
+fn open_block(
     t: &[[u32; 256]; 4],
     ks: &[[[u8; 4]; 4]; 15],
     s: Start,
@@ -147,5 +130,55 @@ pub(crate) fn open_block(
     requires { ⌜ Ready (now t) (now ks) ⌝ }
     ensures { λ r. ⌜ (halvesBlock (r .one) ≡ cipher (now (ks .entry)) (xors (halvesBlock y) (xors (halvesBlock c) (halvesBlock pad)))) × (halvesBlock (r .other) ≡ cipherFrom (now (t .entry)) (now (ks .entry)) s low) ⌝ }
 {
-    encrypt_beside(t, ks, add_halves(y, add_halves(c, pad)), s, low)
+    let x = add_halves(c, pad);
+    encrypt_beside(t, ks, add_halves(y, x), s, low)
+}
+
+// The chain along a last part, shorter than a block, of the plaintext that a ciphertext gives, with counter k.
+fn open_last(
+    t: &[[u32; 256]; 4],
+    ks: &[[[u8; 4]; 4]; 15],
+    base: [u8; 16],
+    k: usize,
+    y: [u8; 16],
+    c: &[u8],
+) -> [u8; 16]
+    requires { ⌜ Ready (now t) (now ks) × (length (now c) < 16) ⌝ }
+    ensures { λ r. ⌜ r ≡ chain (cipher (now (ks .entry))) y (cut (ctr (cipher (now (ks .entry))) 3 (frontOf false base) k (now (c .entry)))) ⌝ }
+{
+    if c.len() == 0 {
+        return y;
+    }
+    let pad = encrypt(t, ks, counter_block(base, false, k));
+    encrypt(t, ks, xor_blocks(y, summed(c, pad)))
+}
+
+// The chain along the plaintext that a ciphertext gives, which is written nowhere: each block is chained beside the next counter.
+pub(crate) fn chain_opened(
+    t: &[[u32; 256]; 4],
+    ks: &[[[u8; 4]; 4]; 15],
+    base: [u8; 16],
+    y: [u8; 16],
+    c: &[u8],
+) -> [u8; 16]
+    requires { ⌜ Ready (now t) (now ks) × (length (now c) ≤ 1048576) ⌝ }
+    ensures { λ r. ⌜ r ≡ chain (cipher (now (ks .entry))) y (cut (ctr (cipher (now (ks .entry))) 3 (frontOf false base) 1 (now (c .entry)))) ⌝ }
+{
+    let n = c.len();
+    let mut h = halves_from(y);
+    let mut at = 0;
+    let mut k = 1;
+    let mut s = start_at(t, ks, base, false, 1);
+    let mut pad = encrypt_from(t, ks, s, 1);
+    while 16 <= n - at {
+        let v = renewed(t, ks, base, s, k);
+        let both = open_block(t, ks, v, ((k + 1) % 256) as u8, h, halves_at(c, at), pad);
+        h = both.one;
+        pad = both.other;
+        s = v;
+        at += 16;
+        k += 1;
+    }
+    let x = block(h);
+    open_last(t, ks, base, k, x, &c[at..])
 }

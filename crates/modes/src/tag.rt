@@ -1,24 +1,16 @@
-// What decides over a tag, which CCM and GCM share.
+// What decides over a tag, in any mode.
 use octets::strings::equal;
 ghost use mathlib.Core.Path.{_≡_};
-ghost use mathlib.Core.Bool.{not};
-ghost use mathlib.Core.List.{[], _∷_};
-ghost use lib.ListN.{length};
 ghost use Rattle.octets.specs.Same.{same};
 ghost use Rattle.octets.specs.Lent.{lowest};
+ghost use Rattle.modes.specs.Calls.{tagTests};
 
-// Whether the tag is the right one, over all its bytes, whatever the earlier ones are.
-pub(crate) fn same_tag(tag: &[u8], right: [u8; 16]) -> bool
-    requires { ⌜ length (now tag) ≡ 16 ⌝ }
-    ensures { λ r. ⌜ r ≡ same (now (tag .entry)) right ⌝ }
+// 9 where the tag is not the right one: of another length, or with another byte, whatever the earlier ones are.
+pub(crate) fn tag_number(tag: &[u8], right: &[u8]) -> u8
+    ensures { λ r. ⌜ r ≡ lowest (tagTests (same (now (tag .entry)) (now (right .entry)))) ⌝ }
 {
-    let size = 16;
-    equal(&tag[..size], &right[..size])
-}
-
-// 9 where the tag is wrong.
-pub(crate) fn tag_number(right: bool) -> u8
-    ensures { λ r. ⌜ r ≡ lowest ((9, not right) ∷ []) ⌝ }
-{
-    if right { 0 } else { 9 }
+    if equal(tag, right) {
+        return 0;
+    }
+    9
 }

@@ -1,15 +1,14 @@
--- `aes_fast::halves::add_halves` meets its contract: exclusive or of words adds the columns.
+-- `aes_fast::halves::add_halves` meets its contract: word by word.
 -- Assumes nothing.
-use Rattle.aes_fast.specs.Halves.{columnsOf}
-use Rattle.aes_fast.proofs.Pairs.{columns-xor}
+use mathlib.Core.Path.{refl}
+use Rattle.aes_fast.proofs.Pairs.{halvesBlock-xor}
 use Rattle.aes_fast.proofs.halves.add_halves.Statement.{statement}
 use Rattle.aes_fast.proofs.halves.add_halves.Tie as tie
 
 returns : tie.Need-returns
-unfolding columnsOf
 returns c =
     let a = c .before .before .before .before .args in
-    columns-xor (a .a .first) (a .a .second) (a .b .first) (a .b .second)
+    halvesBlock-xor (a .a) (a .b) _ refl refl
 
 pub add-halves-spec : {M : Type 1} → statement M
 add-halves-spec =

@@ -5,12 +5,11 @@ use mathlib.Core.Path.{ap, _∙_}
 use Rattle.aes.specs.State.{State}
 use Rattle.aes.specs.Cipher.{addRoundKey}
 use Rattle.aes_fast.specs.Halves.{columnsOf}
-use Rattle.aes_fast.proofs.Pairs.{roundBy-words}
+use Rattle.aes_fast.proofs.Pairs.{columnsOf-xor, roundBy-words}
 use Rattle.aes_fast.proofs.rounds.round.Statement.{statement}
 use Rattle.aes_fast.proofs.rounds.round.Tie as tie
 
 returns : tie.Need-returns
-unfolding columnsOf
 returns c =
     let made = c .before in
     let fourth = made .before in
@@ -18,9 +17,9 @@ returns c =
     let second = third .before in
     let first = second .before in
     let a = first .before .args in
-    c .add-halves .ensures
+    columnsOf-xor (made .from-columns .result) (a .k) (c .add-halves .result) (c .add-halves .ensures)
     ∙ ap (λ (s : State). addRoundKey s (columnsOf (a .k))) (made .from-columns .ensures)
-    ∙ roundBy-words (a .t .now) (a .s .first) (a .s .second) (columnsOf (a .k))
+    ∙ roundBy-words (a .s) (a .t .now) (columnsOf (a .k))
     (first .mixed-column .ensures) (second .mixed-column2 .ensures) (third .mixed-column3 .ensures) (fourth .mixed-column4 .ensures)
 
 pub round-spec : {M : Type 1} → statement M

@@ -1,27 +1,17 @@
--- `modes::ccm::base_of` meets its contract, byte by byte.
+-- `modes::ccm::base_of` meets its contract: the nonce after the flags, over zeros.
 -- Assumes nothing.
+use Rattle.modes.proofs.Formatted.{front-stored}
 use borrow.Author.Needs.{needs}
-use Rattle.modes.proofs.Formatted.{front-bytes}
 use Rattle.modes.proofs.ccm.base_of.Statement.{statement}
 use Rattle.modes.proofs.ccm.base_of.Tie as tie
 
 returns : tie.Need-returns
-returns c = front-bytes (c .args .t1) (c .good .0 .1 .0 .1)
+returns c = front-stored (c .before .before .before .before .args .iv .now) (c .before .before .before .before .pre) (c .before .put .ensures)
 
 pub base-of-spec : {M : Type 1} → statement M
 base-of-spec =
     tie.close
     (tie.spec
-    (λ c. search needs)
-    (λ c. search needs)
-    (λ c. search needs)
-    (λ c. search needs)
-    (λ c. search needs)
-    (λ c. search needs)
-    (λ c. search needs)
-    (λ c. search needs)
-    (λ c. search needs)
-    (λ c. search needs)
-    (λ c. search needs)
-    (λ c. search needs)
+    (λ c. search needs) (λ c. search needs) (λ c. search needs) (λ c. search needs)
+    (λ c κs. search needs)
     returns)

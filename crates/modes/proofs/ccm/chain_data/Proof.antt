@@ -21,7 +21,7 @@ returns-2 c =
     let start = tested .before .before .before in
     let a = start .args in
     data-steps (cipher (a .ks .now)) (cipher-length (a .ks .now)) (a .y) (a .a .now) (a .b .now) _ _ _ _ _ (start .good .1 .1 .0 .1 .0 .1) (tested .if1 .left)
-    (sized .bytes16 .ensures) (first .before .absorb .ensures) (first .absorb2 .ensures) (second .absorb3 .ensures) (c .close .ensures)
+    (sized .bytes16 .ensures) (first .before .absorb .ensures .by-cipher (start .pre .0)) (first .absorb2 .ensures .by-cipher (start .pre .0)) (second .absorb3 .ensures .by-cipher (start .pre .0)) (c .close .ensures .by-cipher (start .pre .0))
 
 pub chain-data-spec : {M : Type 1} → statement M
 chain-data-spec =

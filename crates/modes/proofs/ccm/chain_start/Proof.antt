@@ -1,27 +1,32 @@
 -- `modes::ccm::chain_start` meets its contract: the cipher of the first block, and then the data.
 -- Assumes nothing.
 use mathlib.Core.Path.{ap, _∙_}
+use mathlib.Core.Bool.{false}
 use mathlib.Core.List.{List, _++_}
 use Prim.Native.Nat.{ℕ}
-use borrow.Author.Needs.{needs}
+use lib.ListN.{drop}
 use Rattle.octets.specs.Blocks.{chain}
 use Rattle.aes.specs.Cipher.{cipher}
+use Rattle.modes.specs.Counter.{frontOf}
 use Rattle.modes.specs.Ccm.{dataBlocks}
 use Rattle.modes.proofs.Formatted.{firstBlock-parts}
+use borrow.Author.Needs.{needs}
 use Rattle.modes.proofs.ccm.chain_start.Statement.{statement}
 use Rattle.modes.proofs.ccm.chain_start.Tie as tie
 
 returns : tie.Need-returns
 returns c =
     let begun = c .before in
-    let start = begun .before .before .before .before in
+    let start = c .before .before .before .before .before in
     let a = start .args in
     c .chain-data .ensures
     ∙ ap (λ (y : List ℕ). chain (cipher (a .ks .now)) y (dataBlocks (a .a .now ++ a .b .now)))
     (begun .encrypt .ensures .by-cipher (start .pre .0)
-    ∙ ap (cipher (a .ks .now)) (begun .before .first-block .ensures ∙ firstBlock-parts (a .iv) (a .a .now) (a .b .now) (a .n)))
+    ∙ ap (cipher (a .ks .now)) (begun .before .first-block .ensures ∙ firstBlock-parts (drop 1 (frontOf false (a .base))) (a .a .now) (a .b .now) (a .n)))
 
 pub chain-start-spec : {M : Type 1} → statement M
 chain-start-spec =
     tie.close
-    (tie.spec (λ c. search needs) (λ c κs. search needs) (λ c κs. search needs) (λ c κs. search needs) returns)
+    (tie.spec
+    (λ c. search needs) (λ c κs. search needs) (λ c κs. search needs) (λ c κs. search needs)
+    returns)

@@ -1,69 +1,33 @@
--- `modes::ccm::open` meets its contract: 9 where the tag is wrong, and else the plaintext.
+-- `modes::ccm::open` meets its contract: the tag of the plaintext that the ciphertext gives decides, and then it is written.
 -- Assumes nothing.
-use mathlib.Core.Path.{_≡_, sym, ap, ap₂, _∙_}
-use mathlib.Core.Bool.{not}
-use mathlib.Core.List.{List, [], _∷_, _++_}
-use lib.Dec.{lit≤}
-use Prim.Native.Nat.{ℕ}
-use native.Mathlib.Omega.{arith}
+use mathlib.Core.List.{_++_}
 use borrow.Author.Needs.{needs}
-use Rattle.octets.specs.Lent.{lowest, answer}
-use Rattle.octets.proofs.Arrays.{array-bytes}
-use Rattle.aes.specs.State.{State}
+use lib.Dec.{lit≤}
 use Rattle.aes.specs.Cipher.{cipher}
 use Rattle.aes.proofs.Laws.{cipher-length}
-use Rattle.aes_fast.specs.Right.{Ready}
-use Rattle.aes_fast.proofs.Laws.{made-ready}
-use Rattle.modes.specs.Ccm.{text, tagRight}
 use Rattle.modes.proofs.Limits.{counterFits-three}
-use Rattle.modes.proofs.Formatted.{text-counted}
+use Rattle.modes.proofs.Formatted.{opened-steps}
 use Rattle.modes.proofs.ccm.open.Statement.{statement}
 use Rattle.modes.proofs.ccm.open.Tie as tie
 
--- under the schedule of the key
-ready : (c : tie.After-expand-key) → Ready (c .before .round-tables .result) (c .expand-key .result)
-ready c =
-    let start = c .before .before .before .before .before .before .before in
-    made-ready _ _ (start .args .key) (c .before .round-tables .ensures) (c .expand-key .ensures) (array-bytes 32 (start .args .key) _ (start .good .0))
-
-authentic-requires : tie.Need-authentic-requires
-authentic-requires c κs =
-    let made = c .before .before in
-    let start = made .before .before .before .before .before .before .before in
-    (ready made, omega arith, omega arith, start .pre .2)
-
 counter-if-requires : tie.Need-counter-if-requires
 counter-if-requires c κs =
-    let made = c .before .before .before .before .before .before .before .before in
-    let start = made .before .before .before .before .before .before .before in
-    (ready made, omega arith, omega arith, counterFits-three _ _ (lit≤ tt) (start .pre .1))
+    let start = c .before .before .before .before .before .before .before .before .before .before .before .before .before in (start .pre .0, start .pre .5, lit≤ tt, counterFits-three _ _ (lit≤ tt) (start .pre .3))
 
 returns : tie.Need-returns
 returns c =
-    let written = c .before .before in
-    let base = written .before .before in
-    let numbered = base .before .before .before in
-    let tested = numbered .before in
-    let made = tested .before .before .before in
-    let start = made .before .before .before .before .before .before .before in
+    let start = c .before .before .before .before .before .before .before .before .before .before .before .before .before .before .before .before in
     let a = start .args in
-    let F = cipher (made .expand-key .result) in
-    ap (λ (ks : List State). answer (lowest ((9, not (tagRight (cipher ks) (a .iv) (a .a .now ++ a .b .now) (a .c .now) (a .tag .now))) ∷ [])) (text (cipher ks) (a .iv) (a .c .now)) (a .out .now))
-    (sym (made .expand-key .ensures))
-    ∙ ap₂ (λ (n : ℕ) (s : List ℕ). answer n s (a .out .now))
-    (sym (numbered .tag-number .ensures ∙ ap (λ r. lowest ((9, not r) ∷ [])) (tested .authentic .ensures)))
-    (text-counted F (cipher-length _) (a .iv) (a .c .now) _ (start .good .1 .0 .1 .0 .1) (base .base-of .ensures))
-    ∙ written .counter-if .ensures
+    opened-steps (cipher (a .ks .now)) (cipher-length (a .ks .now)) (a .iv .now) (a .a .now ++ a .b .now) (start .pre .1) (c .before .before .before .before .before .before .before .before .before .base-of .ensures)
+    (a .c .now) (a .tag .now) (a .out .now) (start .pre .4) (c .before .before .before .before .before .before .before .before .chain-start .ensures) (c .before .before .before .before .before .before .before .chain-opened .ensures)
+    (c .before .before .before .before .before .before .tag-from .ensures) (c .before .before .before .before .tag-number .ensures) (c .before .before .counter-if .ensures)
 
 pub open-spec : {M : Type 1} → statement M
 open-spec =
     tie.close
     (tie.spec
-    (λ c κs. search needs)
-    (λ c κs. search needs)
-    authentic-requires
-    (λ c κs. search needs)
-    (λ c κs. search needs)
+    (λ c κs. search needs) (λ c κs. search needs) (λ c κs. search needs) (λ c κs. search needs)
+    (λ c. search needs) (λ c κs. search needs)
     counter-if-requires
     (λ c. search needs)
     returns)

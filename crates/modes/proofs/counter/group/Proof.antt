@@ -1,145 +1,86 @@
--- `modes::counter::group` meets its contract: two blocks a turn, and then one or what there is. Until its end the loops know the counter blocks' front by the start alone.
+-- `modes::counter::group` meets its contract: two blocks a turn, and then the rest, by the start alone; and the start serves the whole group.
 -- Assumes nothing.
-use borrow.Author.Needs.{needs}
-use mathlib.Core.Path.{_≡_, refl, sym, ap, _∙_}
-use mathlib.Core.List.{List}
-use Prim.Native.Nat.{ℕ, _+_, _-_, _*_, _≤_, _<_}
+use mathlib.Core.Path.{sym, _∙_}
+use mathlib.Core.List.{[]}
+use Prim.Native.Nat.{ℕ, _+_, _-_, _≤_}
 use native.Mathlib.Omega.{arith}
-use lib.ListN.{length, take, drop}
-use Rattle.octets.specs.Xor.{xors}
+use borrow.Author.Needs.{needs}
+use lib.ListN.{length}
 use Rattle.octets.proofs.Lent.{over-whole}
-use Rattle.aes.specs.Cipher.{cipher}
 use Rattle.aes.proofs.Laws.{cipher-length}
-use Rattle.modes.specs.Counter.{width, frontOf}
-use Rattle.modes.specs.Pads.{Serves}
-use Rattle.modes.proofs.Written.{part-length}
-use Rattle.modes.proofs.Stream.{Partly, partly-start, partly-turn, partly-end, partly-again, partly-over, ctr-last, length-ctr}
-use Rattle.modes.proofs.Grouped.{group-same, group-low, pair-served}
+use Rattle.modes.specs.Pads.{padOf, Sized}
+use Rattle.modes.proofs.Limits.{pair-within}
+use Rattle.modes.proofs.Stream.{Partly, partly-start, partly-room, partly-rest, partly-block, partly-last, length-ctr}
+use Rattle.modes.proofs.Grouped.{pad-counter, serves-sized, serves-text}
 use Rattle.modes.proofs.counter.group.Statement.{statement}
 use Rattle.modes.proofs.counter.group.Tie as tie
 
 abbrev Inv-loop : tie.InvT-loop
-Inv-loop t ks wide i text out₀ n s at₀ k₀ out at k =
-    (at ≤ length text) × (length out ≡ length out₀) × (at < length text → 16 * k ≡ 16 * i + at)
-    × ((w : ℕ) (front : List ℕ) → Serves t ks w front s i → Partly (cipher ks) w front i text out₀ at k out)
+Inv-loop t ks wide i text out₀ n s at₀ k₀ out at k = Partly (padOf t ks s) 1 [] i text out₀ at k out
 
 abbrev μ-loop : tie.MeasureT-loop
 μ-loop t ks wide i text out₀ n s at₀ k₀ out at k = length text - at
 
-abbrev Inv-loop2 : tie.InvT-loop2
-Inv-loop2 t ks wide i text out₀ n s at₀ k₀ out at k =
-    (at ≤ length text) × (length out ≡ length out₀) × (at < length text → 16 * k ≡ 16 * i + at)
-    × ((w : ℕ) (front : List ℕ) → Serves t ks w front s i → Partly (cipher ks) w front i text out₀ at k out)
+fits : (c : tie.Start Inv-loop μ-loop) → length (c .args .text .now) ≤ length (c .args .out .now)
+fits c = omega (arith, c .pre .1)
 
-abbrev μ-loop2 : tie.MeasureT-loop2
-μ-loop2 t ks wide i text out₀ n s at₀ k₀ out at k = length text - at
+sized : (c : tie.After-start-at Inv-loop μ-loop) → Sized (padOf (c .before .before .before .args .t .now) (c .before .before .before .args .ks .now) (c .start-at .result))
+sized c = serves-sized (c .start-at .ensures) (cipher-length (c .before .before .before .args .ks .now))
 
-start-at-requires : tie.Need-start-at-requires Inv-loop μ-loop Inv-loop2 μ-loop2
+-- after the first block of a pair
+first : (c : tie.After-add-at Inv-loop μ-loop)
+    → (let at-loop = c .before .before .before .before in
+    let begun = at-loop .before in
+    let a = begun .before .before .before .args in
+    Partly (padOf (a .t .now) (a .ks .now) (begun .start-at .result)) 1 [] (a .i) (a .text .now) (a .out .now) (at-loop .loop .at + 16) (at-loop .loop .k + 1)
+    (c .add-at .last .1 .1 .1 .0))
+first c =
+    let ciphered = c .before .before in
+    let at-loop = ciphered .before .before in
+    let begun = at-loop .before in
+    let a = begun .before .before .before .args in
+    let l = at-loop .loop in
+    partly-block (l .inv) (fits (begun .before .before .before)) (sized begun) (pair-within (l .at) (length (a .text .now)) (ciphered .before .loop-test .taken) .0)
+    (ciphered .encrypt-two-from .ensures .0 ∙ sym (pad-counter (a .t .now) (a .ks .now) (begun .start-at .result) (l .k))) (c .add-at .ensures)
+
+start-at-requires : tie.Need-start-at-requires Inv-loop μ-loop
 start-at-requires c κs = c .before .before .pre .0
 
-loop-holds : tie.Need-loop-holds Inv-loop μ-loop Inv-loop2 μ-loop2
-loop-holds c = (omega arith, refl, (λ h. omega arith), (λ w front serves. partly-start))
+loop-holds : tie.Need-loop-holds Inv-loop μ-loop
+loop-holds c = partly-start
 
-add-pair-requires : tie.Need-add-pair-requires Inv-loop μ-loop Inv-loop2 μ-loop2
-add-pair-requires c κs =
-    let at-loop = c .before .before .before in
-    let start = at-loop .before .before .before .before in
-    let l = at-loop .loop in
-    let counted = l .inv .2 (omega arith) in
-    let text = part-length (start .args .text .now) (l .at) (l .at + 32) (omega arith) in
-    let out = part-length (l .out) (l .at) (l .at + 32) (omega arith) in
-    (omega (arith, group-low (start .args .i) (l .k) (l .at) (length (start .args .text .now)) counted (start .pre .2) (omega arith)), omega (arith, text), omega (arith, out))
+add-at-requires : tie.Need-add-at-requires Inv-loop μ-loop
+add-at-requires c κs =
+    let more = pair-within (c .before .before .before .loop .at) (length (c .before .before .before .before .before .before .before .args .text .now)) (c .before .before .loop-test .taken) in
+    (more .0, partly-room (c .before .before .before .loop .inv) (fits (c .before .before .before .before .before .before .before)) (more .0))
 
-add-k : tie.Need-add-k Inv-loop μ-loop Inv-loop2 μ-loop2
-add-k c =
-    let l = c .before .before .before .before .before .before .loop in
-    let counted = l .inv .2 (omega arith) in
-    omega (arith, counted)
+add-at-requires-2 : tie.Need-add-at-requires-2 Inv-loop μ-loop
+add-at-requires-2 c κs =
+    let more = pair-within (c .before .before .before .before .before .before .before .loop .at) (length (c .before .before .before .before .before .before .before .before .before .before .before .args .text .now)) (c .before .before .before .before .before .before .loop-test .taken) in
+    (more .1, partly-room (first (c .before .before .before)) (fits (c .before .before .before .before .before .before .before .before .before .before .before)) (more .1))
 
-loop-again : tie.Need-loop-again Inv-loop μ-loop Inv-loop2 μ-loop2
+loop-again : tie.Need-loop-again Inv-loop μ-loop
 loop-again c =
-    let pair = c .before .before in
-    let at-loop = pair .before .before .before .before in
-    let start = at-loop .before .before .before .before in
-    let a = start .args in
-    let l = at-loop .loop in
-    let counted = l .inv .2 (omega arith) in
-    let size = cipher-length (a .ks .now) in
-    let part = take (l .at + 32 - l .at) (drop (l .at) (a .text .now)) in
-    let long : length part ≡ 32 = part-length (a .text .now) (l .at) (l .at + 32) (omega arith) ∙ omega arith in
-    let last = group-low (a .i) (l .k) (l .at) (length (a .text .now)) counted (start .pre .2) (omega arith) in
-    let same = group-same (a .i) (l .k) (l .at) (length (a .text .now)) counted (start .pre .2) (omega arith) in
-    let here = at-loop .before .start-at .ensures in (
-      omega arith,
-      partly-turn (l .inv .3 _ _ here) (omega arith) size 2 (l .at + 32) (omega arith) (omega arith) (λ h. omega arith)
-          (pair-served here size (l .k) part _ long last same (pair .add-pair .ensures)) .room,
-      (λ h. omega (arith, counted)),
-      (λ w front serves.
-          partly-turn (l .inv .3 w front serves) (omega arith) size 2 (l .at + 32) (omega arith) (omega arith) (λ h. omega arith)
-          (pair-served serves size (l .k) part _ long last same (pair .add-pair .ensures))),
-    )
+    let a = c .before .before .before .before .before .before .before .before .before .before .before .before .before .before .args in
+    let begun = c .before .before .before .before .before .before .before .before .before .before .before in
+    partly-block (first (c .before .before .before .before .before .before)) (fits (c .before .before .before .before .before .before .before .before .before .before .before .before .before .before)) (sized begun) (pair-within (c .before .before .before .before .before .before .before .before .before .before .loop .at) (length (c .before .before .before .before .before .before .before .before .before .before .before .before .before .before .args .text .now)) (c .before .before .before .before .before .before .before .before .before .loop-test .taken) .1)
+    (c .before .before .before .before .before .before .before .before .encrypt-two-from .ensures .1 ∙ sym (pad-counter (a .t .now) (a .ks .now) (begun .start-at .result) (c .before .before .before .before .before .before .before .before .before .before .loop .k + 1)))
+    (c .before .before .add-at2 .ensures)
 
-loop2-holds : tie.Need-loop2-holds Inv-loop μ-loop Inv-loop2 μ-loop2
-loop2-holds c = let l = c .before .loop in (omega arith, refl, l .inv .2, (λ w front serves. partly-again (l .inv .3 w front serves)))
+add-rest-requires : tie.Need-add-rest-requires Inv-loop μ-loop
+add-rest-requires c κs =
+    let l = c .before .before .before .loop in
+    let left = partly-rest (l .inv) (fits (c .before .before .before .before .before .before .before)) in
+    (sized (c .before .before .before .before), omega (arith, left .0), left .1, omega (arith, l .inv .counted))
 
-add-last-requires : tie.Need-add-last-requires Inv-loop μ-loop Inv-loop2 μ-loop2
-add-last-requires c κs =
-    let ended = c .before .before .before .before in
-    let at-loop = ended .before .before in
-    let start = at-loop .before .before .before .before .before .before in
-    let l = at-loop .loop2 in
-    let e = ended .block-end .result in
-    let text = part-length (start .args .text .now) (l .at) e (omega arith) in
-    let out = part-length (l .out) (l .at) e (omega arith) in
-    (omega (arith, text), out ∙ sym text)
-
-add-k-2 : tie.Need-add-k-2 Inv-loop μ-loop Inv-loop2 μ-loop2
-add-k-2 c =
-    let ended = c .before .before .before .before .before .before .before in
-    let l = ended .before .before .loop2 in
-    let counted = l .inv .2 (omega arith) in
-    omega (arith, counted)
-
-loop2-again : tie.Need-loop2-again Inv-loop μ-loop Inv-loop2 μ-loop2
-loop2-again c =
-    let last = c .before .before in
-    let padded = last .before .before .before in
-    let ciphered = padded .before in
-    let ended = ciphered .before in
-    let at-loop = ended .before .before in
-    let start = at-loop .before .before .before .before .before .before in
-    let a = start .args in
-    let l = at-loop .loop2 in
-    let e = ended .block-end .result in
-    let counted = l .inv .2 (omega arith) in
-    let size = cipher-length (a .ks .now) in
-    let part = take (e - l .at) (drop (l .at) (a .text .now)) in
-    let short : length part ≤ 16 = omega (arith, part-length (a .text .now) (l .at) e (omega arith)) in
-    let same = group-same (a .i) (l .k) (l .at) (length (a .text .now)) counted (start .pre .2) (omega arith) in
-    let here = at-loop .before .before .before .start-at .ensures in
-    let added = last .add-last .ensures ∙ ap (xors part) (padded .block .ensures ∙ ciphered .encrypt-from .ensures) in (
-      omega arith,
-      partly-turn (l .inv .3 _ _ here) (omega arith) size 1 e (omega arith) (omega arith) (λ h. omega arith)
-          (added ∙ ap (xors part) (here .pads (l .k) same) ∙ sym (ctr-last (cipher (a .ks .now)) size _ _ (l .k) part short)) .room,
-      (λ h. omega (arith, counted)),
-      (λ w front serves.
-          partly-turn (l .inv .3 w front serves) (omega arith) size 1 e (omega arith) (omega arith) (λ h. omega arith)
-          (added ∙ ap (xors part) (serves .pads (l .k) same) ∙ sym (ctr-last (cipher (a .ks .now)) size w front (l .k) part short))),
-    )
-
-returns : tie.Need-returns Inv-loop μ-loop Inv-loop2 μ-loop2
+returns : tie.Need-returns Inv-loop μ-loop
 returns c =
-    let pairs = c .before .before .before in
-    let begun = pairs .before in
-    let start = begun .before .before .before in
+    let start = c .before .before .before .before .before .before .before .before .before .before in
+    let begun = c .before .before .before .before .before .before .before in
     let a = start .args in
-    let size = cipher-length (a .ks .now) in
-    let w = width (a .wide) in
-    let front = frontOf (a .wide) (a .base) in
-    let serves = begun .start-at .ensures in
-    partly-end (c .before .loop2 .inv .3 w front serves) (omega arith) size (c .loop2-test .left)
-    ∙ partly-over (pairs .loop .inv .3 w front serves) (omega arith) size
-    ∙ over-whole _ (a .out .now) (length-ctr (cipher (a .ks .now)) size w front (a .i) (a .text .now) ∙ sym (start .pre .1))
+    partly-last (c .before .before .before .before .before .before .loop .inv) (fits start) (sized begun) (c .before .before .add-rest .ensures)
+    ∙ over-whole _ (a .out .now) (length-ctr (padOf (a .t .now) (a .ks .now) (begun .start-at .result)) (sized begun) 1 [] (a .i) (a .text .now) ∙ sym (start .pre .1))
+    ∙ serves-text (begun .start-at .ensures) (a .text .now) (start .pre .2)
 
 pub group-spec : {M : Type 1} → statement M
 group-spec =
@@ -147,37 +88,16 @@ group-spec =
     (tie.spec
     Inv-loop
     μ-loop
-    Inv-loop2
-    μ-loop2
     start-at-requires
     loop-holds
-    (λ c. search needs)
-    (λ c. search needs)
-    (λ c. search needs)
-    (λ c. search needs)
-    (λ c. search needs)
-    (λ c. search needs)
-    (λ c. search needs)
-    (λ c. search needs)
-    (λ c. search needs)
-    add-pair-requires
-    add-k
-    (λ c. search needs)
+    (λ c. search needs) (λ c. search needs) (λ c. search needs) (λ c. search needs)
+    (λ c. search needs) (λ c κs. search needs)
+    add-at-requires
+    add-at-requires-2
+    (λ c. search needs) (λ c. search needs) (λ c. search needs)
     loop-again
-    loop2-holds
-    (λ c κs. search needs)
-    (λ c. search needs)
-    (λ c κs. search needs)
-    (λ c κs. search needs)
-    (λ c. search needs)
-    (λ c. search needs)
-    (λ c. search needs)
-    (λ c. search needs)
-    (λ c. search needs)
-    (λ c. search needs)
-    add-last-requires
-    add-k-2
-    (λ c. search needs)
-    loop2-again
+    (λ c. search needs) (λ c. search needs) (λ c. search needs) (λ c. search needs)
+    (λ c. search needs) (λ c. search needs)
+    add-rest-requires
     (λ c. search needs)
     returns)

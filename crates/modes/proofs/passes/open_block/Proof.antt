@@ -5,8 +5,7 @@ use borrow.Author.Needs.{needs}
 use Rattle.octets.specs.Xor.{xors}
 use Rattle.aes.specs.Cipher.{cipher}
 use Rattle.aes_fast.specs.Halves.{halvesBlock}
-use Rattle.aes_fast.proofs.Laws.{ready-cipher}
-use Rattle.modes.proofs.Bytewise.{length-halvesBlock, bytes-halvesBlock}
+use Rattle.aes_fast.proofs.Laws.{ready-cipher, halves-length, halves-bytes}
 use Rattle.modes.proofs.passes.open_block.Statement.{statement}
 use Rattle.modes.proofs.passes.open_block.Tie as tie
 
@@ -19,7 +18,7 @@ returns c =
     let sum = summed .add-halves2 .result in
     let both = c .encrypt-beside .ensures in (
       both .0
-          ∙ ready-cipher (a .t .now) (a .ks .now) (halvesBlock sum) (start .pre) (bytes-halvesBlock sum) (length-halvesBlock sum)
+          ∙ ready-cipher (a .t .now) (a .ks .now) (halvesBlock sum) (start .pre) (halves-bytes sum) (halves-length sum)
           ∙ ap (cipher (a .ks .now)) (summed .add-halves2 .ensures ∙ ap (xors (halvesBlock (a .y))) (opened .add-halves .ensures)),
       both .1,
     )

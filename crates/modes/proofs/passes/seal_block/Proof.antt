@@ -1,43 +1,34 @@
 -- `modes::passes::seal_block` meets its contract: by what each call ensures.
 -- Assumes nothing.
-use mathlib.Core.Path.{ap, ap₂, _∙_}
-use native.Mathlib.Omega.{arith}
+use mathlib.Core.Path.{ap, _∙_}
+use mathlib.Core.List.{List, _++_}
+use Prim.Native.Nat.{ℕ}
 use borrow.Author.Needs.{needs}
-use lib.Seq.{take-all}
+use lib.ListN.{take, drop}
 use Rattle.octets.specs.Xor.{xors}
 use Rattle.aes.specs.Cipher.{cipher}
 use Rattle.aes_fast.specs.Halves.{halvesBlock}
-use Rattle.aes_fast.proofs.Laws.{ready-cipher}
-use Rattle.modes.proofs.Bytewise.{length-halvesBlock, bytes-halvesBlock}
+use Rattle.aes_fast.proofs.Laws.{ready-cipher, halves-length, halves-bytes, block-at-whole}
 use Rattle.modes.proofs.passes.seal_block.Statement.{statement}
 use Rattle.modes.proofs.passes.seal_block.Tie as tie
 
 returns : tie.Need-returns
 returns c =
-    let put = c .before .before .before in
-    let added = put .before .before in
-    let ciphered = added .before in
-    let summed = ciphered .before in
-    let read = summed .before in
-    let start = read .before .before .before in
+    let start = c .before .before .before .before .before .before .before .before .before .before in
     let a = start .args in
-    let sum = summed .add-halves .result in
-    let both = ciphered .encrypt-beside .ensures in
-    let x = read .halves-at .ensures ∙ take-all 16 (a .p .now) (omega (arith, start .pre .1)) in (
+    let sum = c .before .before .before .before .before .before .add-halves in
+    let both = c .before .before .before .before .before .encrypt-beside .ensures in (
       both .0
-          ∙ ready-cipher (a .t .now) (a .ks .now) (halvesBlock sum) (start .pre .0) (bytes-halvesBlock sum) (length-halvesBlock sum)
-          ∙ ap (cipher (a .ks .now)) (summed .add-halves .ensures ∙ ap (xors (halvesBlock (a .y))) x),
-      put .put-halves .ensures ∙ added .add-halves2 .ensures ∙ ap₂ xors x (both .1),
+          ∙ ready-cipher (a .t .now) (a .ks .now) (halvesBlock (sum .result)) (start .pre .0) (halves-bytes (sum .result)) (halves-length (sum .result))
+          ∙ ap (cipher (a .ks .now)) (sum .ensures ∙ ap (xors (halvesBlock (a .y))) (c .before .before .before .before .before .before .before .halves-at .ensures ∙ block-at-whole (a .p .now) (a .at) (start .pre .1))),
+      c .before .before .before .add-at .ensures
+          ∙ ap (λ (b : List ℕ). take (a .at) (a .out .now) ++ (xors (take 16 (drop (a .at) (a .p .now))) b ++ drop 16 (drop (a .at) (a .out .now)))) (both .1),
     )
 
 pub seal-block-spec : {M : Type 1} → statement M
 seal-block-spec =
     tie.close
     (tie.spec
-    (λ c κs. search needs)
-    (λ c κs. search needs)
-    (λ c κs. search needs)
-    (λ c κs. search needs)
-    (λ c κs. search needs)
+    (λ c κs. search needs) (λ c κs. search needs) (λ c κs. search needs) (λ c κs. search needs)
     (λ c. search needs)
     returns)

@@ -28,7 +28,7 @@ returns-2 c =
     let start = counted .before .before .before .before in
     let a = start .args in
     let F = cipher (a .ks .now) in (
-      c .chain-along .ensures,
+      c .chain-along .ensures .by-cipher (start .pre .0),
       added .add-last .ensures
           ∙ ap (xors (a .p .now)) (padded .encrypt .ensures .by-cipher (start .pre .0) ∙ ap F (counted .counter-block .ensures))
           ∙ sym (ctr-last F (cipher-length (a .ks .now)) 3 (frontOf false (a .base)) (a .k) (a .p .now) (omega arith)),

@@ -1,80 +1,95 @@
--- `modes::passes::seal_text` meets its contract: the whole blocks, and then the rest.
+-- `modes::passes::seal_text` meets its contract: a block a turn is chained and written, the start serves its counter, and then the last part.
 -- Assumes nothing.
-use mathlib.Core.Path.{sym, _∙_}
+use mathlib.Core.Path.{_≡_, refl, ap, ap₂, _∙_}
 use mathlib.Core.Bool.{false}
-use Prim.Native.Nat.{ℕ, _+_, _-_, _/_, _%_}
+use mathlib.Core.List.{List}
+use Prim.Native.Nat.{ℕ, _+_, _-_}
 use native.Mathlib.Omega.{arith}
 use borrow.Author.Needs.{needs}
-use lib.ListN.{length}
+use lib.ListN.{length, drop}
+use Rattle.octets.specs.Blocks.{cut, chain}
+use Rattle.octets.proofs.Tests.{rest-all}
 use Rattle.aes.specs.Cipher.{cipher}
 use Rattle.aes.proofs.Laws.{cipher-length}
+use Rattle.aes_fast.specs.Halves.{halvesBlock}
 use Rattle.modes.specs.Counter.{frontOf}
-use Rattle.modes.proofs.Written.{part-length}
-use Rattle.modes.proofs.Stream.{partly-start, partly-part, partly-turn, partly-end}
-use Rattle.modes.proofs.Beside.{chain-whole}
+use Rattle.modes.specs.Pads.{Serves}
+use Rattle.modes.proofs.Limits.{block-within}
+use Rattle.modes.proofs.Stream.{Partly, partly-start, partly-room, partly-rest, partly-block, partly-last}
+use Rattle.modes.proofs.Beside.{chain-turn}
 use Rattle.modes.proofs.passes.seal_text.Statement.{statement}
 use Rattle.modes.proofs.passes.seal_text.Tie as tie
 
-seal-blocks-requires : tie.Need-seal-blocks-requires
-seal-blocks-requires c κs =
-    let start = c .before .before .before .before in
-    let a = start .args in
-    let n = length (a .p .now) in
-    let p = part-length (a .p .now) 0 (n - n % 16) (omega arith) in
-    let out = part-length (a .out .now) 0 (n - n % 16) (omega arith) in
-    (start .pre .0, omega (arith, p), out ∙ sym p, omega (arith, p, start .pre .2))
+abbrev Inv-loop : tie.InvT-loop
+Inv-loop t ks base p out₀ n h₀ at₀ k₀ s₀ out h at k s =
+    Serves t ks 3 (frontOf false base) s k
+    × (chain (cipher ks) (halvesBlock h) (cut (drop at p)) ≡ chain (cipher ks) (halvesBlock h₀) (cut p))
+    × Partly (cipher ks) 3 (frontOf false base) 1 p out₀ at k out
 
-seal-last-requires : tie.Need-seal-last-requires
+abbrev μ-loop : tie.MeasureT-loop
+μ-loop t ks base p out₀ n h₀ at₀ k₀ s₀ out h at k s = length p - at
+
+start-at-requires : tie.Need-start-at-requires Inv-loop μ-loop
+start-at-requires c κs = c .before .before .before .pre .0
+
+loop-holds : tie.Need-loop-holds Inv-loop μ-loop
+loop-holds c = (c .start-at .ensures, refl, partly-start)
+
+seal-block-requires : tie.Need-seal-block-requires Inv-loop μ-loop
+seal-block-requires c κs =
+    let more = block-within (c .before .before .loop .at) (length (c .before .before .before .before .before .before .before .args .p .now)) (c .before .loop-test .taken) in (c .before .before .before .before .before .before .before .pre .0, more, partly-room (c .before .before .loop .inv .2) (c .before .before .before .before .before .before .before .pre .1) more)
+
+renewed-requires : tie.Need-renewed-requires Inv-loop μ-loop
+renewed-requires c κs =
+    let l = c .before .before .before .before .before .loop in (c .before .before .before .before .before .before .before .before .before .before .pre .0, omega (arith, l .inv .2 .counted, c .before .before .before .before .before .before .before .before .before .before .pre .2), l .inv .0)
+
+loop-again : tie.Need-loop-again Inv-loop μ-loop
+loop-again c =
+    let start = c .before .before .before .before .before .before .before .before .before .before .before in
+    let a = start .args in
+    let l = c .before .before .before .before .before .before .loop in
+    let sealed = c .before .before .before .seal-block .ensures in
+    let more = block-within (c .before .before .before .before .before .before .loop .at) (length (c .before .before .before .before .before .before .before .before .before .before .before .args .p .now)) (c .before .before .before .before .before .loop-test .taken) in
+    let F = cipher (a .ks .now) in (
+      c .renewed .ensures,
+      ap (λ (y : List ℕ). chain F y (cut (drop (l .at + 16) (a .p .now)))) (sealed .0) ∙ chain-turn F (halvesBlock (l .h)) (a .p .now) (l .at) more ∙ l .inv .1,
+      partly-block (l .inv .2) (start .pre .1) (cipher-length (a .ks .now)) more (l .inv .0 .pads (l .k) refl) (sealed .1),
+    )
+
+seal-last-requires : tie.Need-seal-last-requires Inv-loop μ-loop
 seal-last-requires c κs =
-    let blocks = c .before .before .before .before in
-    let start = blocks .before .before .before .before .before in
-    let a = start .args in
-    let n = length (a .p .now) in
-    let size = cipher-length (a .ks .now) in
-    let written =
-    partly-turn (partly-start {f = cipher (a .ks .now)} {w = 3} {front = frontOf false (a .base)} {i = 1} {s = a .p .now} {before = a .out .now}) (start .pre .1) size (n / 16) (n - n % 16)
-    (omega arith) (omega arith) (λ h. omega arith) (blocks .seal-blocks .ensures .1) in
-    let p = part-length (a .p .now) (n - n % 16) n (omega arith) in
-    let out = partly-part written (start .pre .1) n (omega arith) in
-    (start .pre .0, omega (arith, p), out ∙ sym p)
+    let left = partly-rest (c .before .before .before .before .loop .inv .2) (c .before .before .before .before .before .before .before .before .before .pre .1) in (c .before .before .before .before .before .before .before .before .before .pre .0, omega (arith, left .0), left .1)
 
-returns : tie.Need-returns
+returns : tie.Need-returns Inv-loop μ-loop
 returns c =
-    let last = c .before .before in
-    let blocks = last .before .before .before .before .before in
-    let start = blocks .before .before .before .before .before in
+    let start = c .before .before .before .before .before .before .before .before .before .before .before .before in
     let a = start .args in
-    let n = length (a .p .now) in
-    let F = cipher (a .ks .now) in
-    let size = cipher-length (a .ks .now) in
-    let written =
-    partly-turn (partly-start {f = F} {w = 3} {front = frontOf false (a .base)} {i = 1} {s = a .p .now} {before = a .out .now}) (start .pre .1) size (n / 16) (n - n % 16)
-    (omega arith) (omega arith) (λ h. omega arith) (blocks .seal-blocks .ensures .1) in (
-      last .seal-last .ensures .0
-          ∙ chain-whole F (a .y) (a .p .now) (blocks .seal-blocks .result) (n - n % 16) (n / 16) (omega arith) (omega arith) (blocks .seal-blocks .ensures .0),
-      partly-end
-          (partly-turn written (start .pre .1) size ((n % 16 + 15) / 16) n (omega arith) (omega arith) (λ h. omega arith) (last .seal-last .ensures .1)) (start .pre .1) size (omega arith),
+    let l = c .before .before .before .before .before .before .before .loop in
+    let last = c .before .before .seal-last .ensures in
+    let F = cipher (a .ks .now) in (
+      last .0
+          ∙ ap₂ (λ (y s : List ℕ). chain F y (cut s)) (c .before .before .before .before .before .block .ensures) (rest-all (a .p .now) (l .at))
+          ∙ l .inv .1
+          ∙ ap (λ (y : List ℕ). chain F y (cut (a .p .now))) (c .before .before .before .before .before .before .before .before .before .halves-from .ensures),
+      partly-last (l .inv .2) (start .pre .1) (cipher-length (a .ks .now)) (last .1),
     )
 
 pub seal-text-spec : {M : Type 1} → statement M
 seal-text-spec =
     tie.close
     (tie.spec
-    (λ c. search needs)
-    (λ c. search needs)
-    (λ c. search needs)
-    (λ c. search needs)
-    (λ c. search needs)
-    (λ c. search needs)
-    (λ c. search needs)
-    (λ c. search needs)
-    seal-blocks-requires
-    (λ c. search needs)
-    (λ c. search needs)
-    (λ c. search needs)
-    (λ c. search needs)
-    (λ c. search needs)
-    (λ c. search needs)
+    Inv-loop
+    μ-loop
+    (λ c κs. search needs)
+    start-at-requires
+    loop-holds
+    (λ c. search needs) (λ c. search needs)
+    seal-block-requires
+    renewed-requires
+    (λ c. search needs) (λ c. search needs) (λ c. search needs)
+    loop-again
+    (λ c κs. search needs) (λ c. search needs) (λ c. search needs) (λ c. search needs)
+    (λ c. search needs) (λ c. search needs) (λ c. search needs)
     seal-last-requires
     (λ c. search needs)
     returns)

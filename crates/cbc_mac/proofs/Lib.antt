@@ -1,0 +1,3 @@
+mod Chained
+mod Ready
+pub mod Laws

@@ -1,0 +1,45 @@
+-- CBC-MAC (SP 800-38C, section 6.1, steps 2 to 4) by tables and round keys that are lent: octets' specs/Blocks has the chain, and specs/Running the chain
+-- over parts. The calls' contracts are aes_fast's `Ciphered` of these; what follows says of each that ready tables and keys make it the cipher's, and that
+-- one result meets it. proofs/Laws.antt proves each.
+-- Assumes nothing.
+use mathlib.Core.Path.{_≡_}
+use Prim.Native.Nat.{ℕ, _%_}
+use mathlib.Core.List.{List}
+use lib.ListN.{length}
+use Rattle.octets.specs.Blocks.{cut, chain}
+use Rattle.octets.specs.Bytes.{Bytes}
+use Rattle.octets.specs.Running.{absorb, close}
+use Rattle.octets.specs.Unique.{Unique}
+use Rattle.aes.specs.State.{State}
+use Rattle.aes.specs.Cipher.{cipher}
+use Rattle.aes_fast.specs.ByTables.{Tables, cipherBy}
+use Rattle.aes_fast.specs.Right.{Ready}
+
+-- a state of a chain: a block of bytes
+pub record IsBlock (y : List ℕ) : Type 0 where
+  pub size : length y ≡ 16
+  pub bytes : Bytes y
+
+-- ---- with ready tables and keys
+
+abbrev pub AbsorbReady : Type 0
+AbsorbReady = (t : Tables) (ks : List State) (k : ℕ) (y s : List ℕ) → Ready t ks → IsBlock y → Bytes s
+    → absorb (cipherBy t ks) k y s ≡ absorb (cipher ks) k y s
+
+abbrev pub CloseReady : Type 0
+CloseReady = (t : Tables) (ks : List State) (k : ℕ) (y : List ℕ) → Ready t ks → IsBlock y → close (cipherBy t ks) k y ≡ close (cipher ks) k y
+
+abbrev pub ChainReady : Type 0
+ChainReady = (t : Tables) (ks : List State) (y s : List ℕ) → Ready t ks → IsBlock y → Bytes s
+    → chain (cipherBy t ks) y (cut s) ≡ chain (cipher ks) y (cut s)
+
+-- ---- one result, whatever the tables
+
+abbrev pub AbsorbUnique : Type 0
+AbsorbUnique = (t : Tables) (ks : List State) (k : ℕ) (y part : List ℕ) → Unique (absorb (cipherBy t ks) (k % 16) y part)
+
+abbrev pub CloseUnique : Type 0
+CloseUnique = (t : Tables) (ks : List State) (k : ℕ) (y : List ℕ) → Unique (close (cipherBy t ks) (k % 16) y)
+
+abbrev pub ChainUnique : Type 0
+ChainUnique = (t : Tables) (ks : List State) (y s : List ℕ) → Unique (chain (cipherBy t ks) y (cut s))

@@ -1,0 +1,98 @@
+// CBC-MAC as a running chain: a state, and how many bytes of its block it has taken. By tables and round keys that a caller lends down.
+use aes_fast::encrypt;
+use aes_fast::halves::block;
+use aes_fast::halves::halves_at;
+use octets::strings::xor_blocks;
+ghost use mathlib.Core.Path.{_≡_};
+ghost use Prim.Native.Nat.{_%_, _<_};
+ghost use Rattle.octets.specs.Blocks.{cut, chain};
+ghost use Rattle.octets.specs.Running.{afterByte, addAt, absorb, close};
+ghost use Rattle.aes_fast.specs.ByTables.{cipherBy};
+ghost use Rattle.aes_fast.specs.Laws.{Ciphered};
+
+fn add_byte(t: &[[u32; 256]; 4], ks: &[[[u8; 4]; 4]; 15], k: usize, y: [u8; 16], b: u8) -> [u8; 16]
+    requires { ⌜ k < 16 ⌝ }
+    ensures { λ r. ⌜ r ≡ afterByte (cipherBy (now (t .entry)) (now (ks .entry))) k (addAt k y b) ⌝ }
+{
+    let mut x = y;
+    x[k] = x[k] ^ b;
+    if k == 15 {
+        return encrypt(t, ks, x);
+    }
+    x
+}
+
+// A part, byte by byte.
+fn absorb_bytes(
+    t: &[[u32; 256]; 4],
+    ks: &[[[u8; 4]; 4]; 15],
+    k: usize,
+    y: [u8; 16],
+    part: &[u8],
+) -> [u8; 16]
+    requires { ⌜ k < 16 ⌝ }
+    ensures { λ r. ⌜ r ≡ absorb (cipherBy (now (t .entry)) (now (ks .entry))) k y (now (part .entry)) ⌝ }
+{
+    let mut x = y;
+    let mut place = k;
+    let mut j = 0;
+    while j < part.len() {
+        let u = add_byte(t, ks, place, x, part[j]);
+        x = u;
+        place = (place + 1) % 16;
+        j += 1;
+    }
+    x
+}
+
+// A part from the start of a block: whole blocks as blocks, and the rest byte by byte.
+fn absorb_blocks(t: &[[u32; 256]; 4], ks: &[[[u8; 4]; 4]; 15], y: [u8; 16], part: &[u8]) -> [u8; 16]
+    ensures { λ r. ⌜ r ≡ absorb (cipherBy (now (t .entry)) (now (ks .entry))) 0 y (now (part .entry)) ⌝ }
+{
+    let n = part.len();
+    let mut x = y;
+    let mut at = 0;
+    while 16 <= n - at {
+        let b = block(halves_at(part, at));
+        let u = encrypt(t, ks, xor_blocks(x, b));
+        x = u;
+        at += 16;
+    }
+    absorb_bytes(t, ks, 0, x, &part[at..])
+}
+
+// A part of any length, from place k of a block: bytes up to the block's end, and the rest from the start of the next.
+pub fn absorb(
+    t: &[[u32; 256]; 4],
+    ks: &[[[u8; 4]; 4]; 15],
+    k: usize,
+    y: [u8; 16],
+    part: &[u8],
+) -> [u8; 16]
+    ensures { λ r. ⌜ Ciphered (now (t .entry)) (now (ks .entry)) (λ f. absorb f (k % 16) y (now (part .entry))) r ⌝ }
+{
+    let place = k % 16;
+    let head = (16 - place) % 16;
+    if part.len() <= head {
+        return absorb_bytes(t, ks, place, y, part);
+    }
+    let x = absorb_bytes(t, ks, place, y, &part[..head]);
+    absorb_blocks(t, ks, x, &part[head..])
+}
+
+// A block that has begun is filled with zeros.
+pub fn close(t: &[[u32; 256]; 4], ks: &[[[u8; 4]; 4]; 15], k: usize, y: [u8; 16]) -> [u8; 16]
+    ensures { λ r. ⌜ Ciphered (now (t .entry)) (now (ks .entry)) (λ f. close f (k % 16) y) r ⌝ }
+{
+    if k % 16 == 0 {
+        return y;
+    }
+    encrypt(t, ks, y)
+}
+
+// The chain along a string's blocks.
+pub fn chain_along(t: &[[u32; 256]; 4], ks: &[[[u8; 4]; 4]; 15], y: [u8; 16], s: &[u8]) -> [u8; 16]
+    ensures { λ r. ⌜ Ciphered (now (t .entry)) (now (ks .entry)) (λ f. chain f y (cut (now (s .entry)))) r ⌝ }
+{
+    close(t, ks, s.len(), absorb_blocks(t, ks, y, s))
+}

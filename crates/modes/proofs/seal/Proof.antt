@@ -1,0 +1,47 @@
+-- `modes::seal` meets its contract: under the schedule of the key, the mode that the byte names.
+-- Assumes nothing.
+use mathlib.Core.List.{_++_}
+use borrow.Author.Needs.{needs}
+use Rattle.octets.proofs.Arrays.{array-bytes}
+use Rattle.aes_fast.specs.Right.{Ready}
+use Rattle.aes_fast.proofs.Laws.{made-ready}
+use Rattle.modes.proofs.Named.{gcm-sealed, ccm-sealed}
+use Rattle.modes.proofs.seal.Statement.{statement}
+use Rattle.modes.proofs.seal.Tie as tie
+
+ready : (c : tie.After-expand-key) → Ready (c .before .before .round-tables .result) (c .expand-key .result)
+ready c =
+    let key = c .before .key-of in
+    made-ready _ _ (key .result) (c .before .before .round-tables .ensures) (c .expand-key .ensures) (array-bytes 32 (key .result) _ (key .ok))
+
+seal-requires : tie.Need-seal-requires
+seal-requires c κs =
+    let start = c .before .before .before .before .before .before .before .before .before .before .before .before .before in (ready (c .before .before .before .before), start .pre .1, start .pre .2, start .pre .3, start .pre .4)
+
+returns : tie.Need-returns
+returns c =
+    let a = c .before .before .before .before .before .before .before .before .before .before .before .before .before .before .before .before .args in
+    gcm-sealed (a .u) (a .key .now) (a .iv .now) (a .a .now ++ a .b .now) (a .plain .now) (a .out .now) (c .before .before .before .before .before .before .before .expand-key .ensures) (c .before .before .before .before .before .before .before .before .key-of .ensures)
+    (c .before .before .before .before .before .before .if1 .taken) (c .before .before .seal .ensures)
+
+seal-requires-2 : tie.Need-seal-requires-2
+seal-requires-2 c κs =
+    let start = c .before .before .before .before .before .before .before .before .before .before .before .before .before in (ready (c .before .before .before .before), start .pre .1, start .pre .2, start .pre .3, start .pre .4)
+
+returns-2 : tie.Need-returns-2
+returns-2 c =
+    let a = c .before .before .before .before .before .before .before .before .before .before .before .before .before .before .before .before .args in
+    ccm-sealed (a .u) (a .key .now) (a .iv .now) (a .a .now ++ a .b .now) (a .plain .now) (a .out .now) (c .before .before .before .before .before .before .before .expand-key .ensures) (c .before .before .before .before .before .before .before .before .key-of .ensures)
+    (c .before .before .before .before .before .before .if1 .left) (c .before .before .seal2 .ensures)
+
+pub seal-spec : {M : Type 1} → statement M
+seal-spec =
+    tie.close
+    (tie.spec
+    (λ c κs. search needs) (λ c κs. search needs) (λ c κs. search needs)
+    seal-requires
+    (λ c. search needs)
+    returns
+    seal-requires-2
+    (λ c. search needs)
+    returns-2)

@@ -1,0 +1,53 @@
+// The numbers that the arguments alone decide, in any mode and in both directions: 2, 4 and 5.
+use crate::iv_size;
+ghost use mathlib.Core.Path.{_≡_};
+ghost use mathlib.Core.List.{List};
+ghost use Prim.Native.Nat.{ℕ, _+_, _≤_};
+ghost use lib.ListN.{length};
+ghost use Rattle.octets.specs.Lent.{lowest};
+ghost use Rattle.modes.specs.Modes.{modeOf};
+ghost use Rattle.modes.specs.Calls.{wrongSizes, tooLong, argumentTests};
+
+// Whether the key or the IV has a length that is none of the mode's. Both modes permit a text of every length.
+pub(crate) fn wrong_sizes(u: u8, key: &[u8], iv: &[u8]) -> bool
+    ensures { λ r. ⌜ ((s : List ℕ) → r ≡ wrongSizes (modeOf u) (now (key .entry)) (now (iv .entry)) s) ⌝ }
+{
+    (key.len() != 32) | (iv.len() != iv_size(u))
+}
+
+// Whether a maximum is passed: the two parts of the associated data together, or the text. No sum can wrap.
+fn too_long(a: &[u8], b: &[u8], text: &[u8]) -> bool
+    ensures { λ r. ⌜ r ≡ tooLong (now (a .entry)) (now (b .entry)) (now (text .entry)) ⌝ }
+{
+    if 4152 < a.len() {
+        return true;
+    }
+    if 4152 - a.len() < b.len() {
+        return true;
+    }
+    1048576 < text.len()
+}
+
+// The first that applies, or 0: `wrong` where a length is none of the mode's, `more` the bytes that the result has beside the text's, `room` the output's length.
+pub(crate) fn argument_number(
+    wrong: bool,
+    a: &[u8],
+    b: &[u8],
+    text: &[u8],
+    more: usize,
+    room: usize,
+) -> u8
+    requires { ⌜ more ≤ 64 ⌝ }
+    ensures { λ r. ⌜ r ≡ lowest (argumentTests wrong (now (a .entry)) (now (b .entry)) (now (text .entry)) (length (now (text .entry)) + more) room) ⌝ }
+{
+    if wrong {
+        return 2;
+    }
+    if too_long(a, b, text) {
+        return 4;
+    }
+    if room < text.len() + more {
+        return 5;
+    }
+    0
+}
