@@ -11,8 +11,8 @@ use Rattle.octets.specs.Tests.{partOf}
 use Rattle.octets.proofs.Tests.{part-short}
 use Rattle.modes.specs.Calls.{encryptAnswer, decryptAnswer}
 use Rattle.keywrap.specs.Calls.{keySize, wrappedSize, wrapAnswer, unwrapAnswer}
-use Rattle.modes.specs.Ccm.{tagSize}
-use Rattle.cases.specs.Case.{wordMax, isBytes, bytesIn, lentRoom, Outcome, malformed, ran, rounds, blockBy, modeBy, blockCase, encryptCase, decryptCase, wrapCase, unwrapCase}
+use Rattle.modes.specs.Modes.{modeOf}
+use Rattle.cases.specs.Case.{wordMax, isBytes, bytesIn, lentRoom, Outcome, malformed, ran, rounds, blockBy, blockCase, encryptCase, decryptCase, wrapCase, unwrapCase}
 use Rattle.cases.specs.Parts.{Holds}
 
 -- ---- a word that was read
@@ -62,24 +62,24 @@ module _ (there : Bool) (times : ℕ) {key block : List ℕ} {o : Outcome} where
 
 -- ---- the modes
 
-module _ (isGcm : Bool) {key iv aad : List ℕ} {o : Outcome} where
+module _ (u : ℕ) {key iv aad : List ℕ} {o : Outcome} where
   pub encrypt-ran : {plain k i a p : List ℕ} → Word key k → Word iv i → Word aad a → Word plain p
-      → ran (encryptAnswer (modeBy isGcm) k i a [] p lentRoom) (length p + tagSize) ≡ o → encryptCase isGcm key iv aad plain ≡ o
+      → ran (encryptAnswer (modeOf u) k i a [] p lentRoom) (length p + modeOf u .tagSize) ≡ o → encryptCase u key iv aad plain ≡ o
   unfolding encryptCase
   encrypt-ran wk wi wa wp r = rw (wk .right, wi .right, wa .right, wp .right, ← wk .bytes, ← wi .bytes, ← wa .bytes, ← wp .bytes) r
 
-  pub encrypt-broken : {plain : List ℕ} {t u v w : Bool} {l m n p : ℕ} {a b c d : List ℕ} → Holds key t l a → Holds iv u m b → Holds aad v n c → Holds plain w p d
-      → (t && u && v && w) ≡ false → malformed ≡ o → encryptCase isGcm key iv aad plain ≡ o
+  pub encrypt-broken : {plain : List ℕ} {t t′ v w : Bool} {l m n p : ℕ} {a b c d : List ℕ} → Holds key t l a → Holds iv t′ m b → Holds aad v n c → Holds plain w p d
+      → (t && t′ && v && w) ≡ false → malformed ≡ o → encryptCase u key iv aad plain ≡ o
   unfolding encryptCase
   encrypt-broken h i j k f r = rw (← h .test, ← i .test, ← j .test, ← k .test, f) r
 
   pub decrypt-ran : {text tag k i a p t : List ℕ} → Word key k → Word iv i → Word aad a → Word text p → Word tag t
-      → ran (decryptAnswer (modeBy isGcm) k i a [] p t lentRoom) (length p) ≡ o → decryptCase isGcm key iv aad text tag ≡ o
+      → ran (decryptAnswer (modeOf u) k i a [] p t lentRoom) (length p) ≡ o → decryptCase u key iv aad text tag ≡ o
   unfolding decryptCase
   decrypt-ran wk wi wa wp wt r =
       rw (wk .right, wi .right, wa .right, wp .right, wt .right, ← wk .bytes, ← wi .bytes, ← wa .bytes, ← wp .bytes, ← wt .bytes) r
 
-  pub decrypt-broken : {text tag : List ℕ} {t u v w x : Bool} {l m n p q : ℕ} {a b c d e : List ℕ} → Holds key t l a → Holds iv u m b → Holds aad v n c → Holds text w p d → Holds tag x q e
-      → (t && u && v && w && x) ≡ false → malformed ≡ o → decryptCase isGcm key iv aad text tag ≡ o
+  pub decrypt-broken : {text tag : List ℕ} {t t′ v w x : Bool} {l m n p q : ℕ} {a b c d e : List ℕ} → Holds key t l a → Holds iv t′ m b → Holds aad v n c → Holds text w p d → Holds tag x q e
+      → (t && t′ && v && w && x) ≡ false → malformed ≡ o → decryptCase u key iv aad text tag ≡ o
   unfolding decryptCase
   decrypt-broken h i j k l f r = rw (← h .test, ← i .test, ← j .test, ← k .test, ← l .test, f) r

@@ -11,7 +11,8 @@ use lib.ListN.{length}
 use Rattle.octets.specs.Lent.{when}
 use Rattle.octets.specs.Tests.{every, all}
 use Rattle.octets.proofs.Tests.{and-left, and-right, every-at}
-use Rattle.octets.proofs.Lent.{one-answer}
+use Rattle.octets.proofs.Unique.{unique}
+use Rattle.modes.proofs.Named.{named-tagSize}
 use Rattle.wording.specs.Hex.{isHex, hexBytes}
 use Rattle.wording.proofs.Digits.{length-hexBytes, hex-even}
 use Rattle.cases.specs.Words.{space, upTo, partsAfter, wordsOf, someBytes}
@@ -77,15 +78,15 @@ block-small there n key block =
     right-small (every (isBytes key ∷ isBytes block ∷ []))
     (λ e. ran-small _ _ (omega (arith, bytes-small block (every-at (isBytes key ∷ isBytes block ∷ []) 1 e))))
 
-encrypt-small : (isGcm : Bool) (key iv aad plain : List ℕ) → Small (encryptCase isGcm key iv aad plain)
+encrypt-small : (u : ℕ) (key iv aad plain : List ℕ) → Small (encryptCase u key iv aad plain)
 unfolding encryptCase
-encrypt-small isGcm key iv aad plain =
+encrypt-small u key iv aad plain =
     right-small (every (isBytes key ∷ isBytes iv ∷ isBytes aad ∷ isBytes plain ∷ []))
-    (λ e. ran-small _ _ (omega (arith, bytes-small plain (every-at (isBytes key ∷ isBytes iv ∷ isBytes aad ∷ isBytes plain ∷ []) 3 e))))
+    (λ e. ran-small _ _ (omega (arith, named-tagSize u, bytes-small plain (every-at (isBytes key ∷ isBytes iv ∷ isBytes aad ∷ isBytes plain ∷ []) 3 e))))
 
-decrypt-small : (isGcm : Bool) (key iv aad text tag : List ℕ) → Small (decryptCase isGcm key iv aad text tag)
+decrypt-small : (u : ℕ) (key iv aad text tag : List ℕ) → Small (decryptCase u key iv aad text tag)
 unfolding decryptCase
-decrypt-small isGcm key iv aad text tag =
+decrypt-small u key iv aad text tag =
     right-small (every (isBytes key ∷ isBytes iv ∷ isBytes aad ∷ isBytes text ∷ isBytes tag ∷ []))
     (λ e. ran-small _ _ (omega (arith, bytes-small text (every-at (isBytes key ∷ isBytes iv ∷ isBytes aad ∷ isBytes text ∷ isBytes tag ∷ []) 3 e))))
 
@@ -97,9 +98,9 @@ unwrap-small : (kek wrapped : List ℕ) → Small (unwrapCase kek wrapped)
 unfolding unwrapCase
 unwrap-small kek wrapped = right-small (every (isBytes kek ∷ isBytes wrapped ∷ [])) (λ e. ran-small _ _ (omega arith))
 
-mode-small : (line : List ℕ) (isGcm : Bool) → Small (ofMode line isGcm)
-mode-small line isGcm =
-    either (says line there) (encrypt-small isGcm _ _ _ _) (either (says line back) (decrypt-small isGcm _ _ _ _ _) none-small)
+mode-small : (line : List ℕ) (u : ℕ) → Small (ofMode line u)
+mode-small line u =
+    either (says line there) (encrypt-small u _ _ _ _) (either (says line back) (decrypt-small u _ _ _ _ _) none-small)
 
 count-small : (line : List ℕ) (n : ℕ) → Small (byCount line n)
 unfolding byCount ofFive ofSix ofEight ofNine
@@ -110,8 +111,8 @@ count-small line n =
     (either (eqb n 6)
     (either (says line there) (wrap-small _ _) (either (says line back) (unwrap-small _ _) none-small))
     (either (eqb n 8)
-    (either (says line ccmWord) (encrypt-small false _ _ _ _) none-small)
-    (either (eqb n 9) (either (nameBegins line gcmName) (mode-small line true) (either (nameBegins line ccmName) (mode-small line false) none-small)) none-small)))
+    (either (says line ccmWord) (encrypt-small 1 _ _ _ _) none-small)
+    (either (eqb n 9) (either (nameBegins line gcmName) (mode-small line 2) (either (nameBegins line ccmName) (mode-small line 1) none-small)) none-small)))
 
 outcome-small : (line : List ℕ) → Small (caseOutcome line)
 unfolding caseOutcome
@@ -124,4 +125,4 @@ size-fits line bytes kind number size e = omega (arith, outcome-small line .fits
 -- ---- one outcome
 
 pub run-unique : RunUnique
-run-unique line a b p q = one-answer p q
+run-unique line = unique (caseOutcome line)

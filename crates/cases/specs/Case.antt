@@ -6,14 +6,13 @@ use mathlib.Core.Bool.{Bool, true, false, _&&_, _||_}
 use mathlib.Core.List.{List, [], _∷_}
 use lib.Dec.{eqb, leb}
 use lib.ListN.{length, replicate}
-use Rattle.octets.specs.Lent.{when, answer}
+use Rattle.octets.specs.Lent.{when, kept, answer}
 use Rattle.octets.specs.Same.{same}
 use Rattle.octets.specs.Tests.{every}
 use Rattle.wording.specs.Hex.{isHex, hexBytes}
 use Rattle.aes.specs.Calls.{encryptBlock, decryptBlock}
-use Rattle.modes.specs.Mode.{Mode}
-use Rattle.modes.specs.Ccm.{tagSize, ccm}
-use Rattle.modes.specs.Gcm.{gcm}
+use Rattle.modes.specs.Ccm.{tagSize}
+use Rattle.modes.specs.Modes.{modeOf}
 use Rattle.modes.specs.Calls.{encryptAnswer, decryptAnswer}
 use Rattle.keywrap.specs.Calls.{keySize, wrappedSize, wrapAnswer, unwrapAnswer}
 
@@ -33,6 +32,7 @@ bytesIn w = when (isDash w) [] (hexBytes w)
 
 -- ---- an outcome: 0 where nothing is to be printed, 1 where the line is malformed, 2 where it ran; the number; the output's size; and the output with zeros after it
 
+-- a word's bytes, and a tag's after them
 abbrev pub outMax : ℕ
 outMax = wordMax + tagSize
 
@@ -51,7 +51,7 @@ malformed = (1, 0, 0, lentRoom)
 
 -- a call's answer over that room, and the size of its result
 abbrev pub ran : ℕ × List ℕ → ℕ → Outcome
-ran a size = (2, a .0, when (eqb (a .0) 0) size 0, a .1)
+ran a size = (2, a .0, kept (a .0) size 0, a .1)
 
 -- ---- the kinds of case, of words
 
@@ -69,19 +69,16 @@ blockCase there n key block =
     let a : ℕ × List ℕ = rounds (blockBy there) n (bytesIn key) (bytesIn block) in
     when (every (isBytes key ∷ isBytes block ∷ [])) (ran (answer (a .0) (a .1) lentRoom) (length (bytesIn block))) malformed
 
-abbrev pub modeBy : Bool → Mode
-modeBy true = gcm
-modeBy false = ccm
-
-unfoldable pub encryptCase : Bool → List ℕ → List ℕ → List ℕ → List ℕ → Outcome
-encryptCase isGcm key iv aad plain =
+-- by the byte that names the mode, 1 CCM and 2 GCM
+unfoldable pub encryptCase : ℕ → List ℕ → List ℕ → List ℕ → List ℕ → Outcome
+encryptCase u key iv aad plain =
     when (every (isBytes key ∷ isBytes iv ∷ isBytes aad ∷ isBytes plain ∷ []))
-    (ran (encryptAnswer (modeBy isGcm) (bytesIn key) (bytesIn iv) (bytesIn aad) [] (bytesIn plain) lentRoom) (length (bytesIn plain) + tagSize)) malformed
+    (ran (encryptAnswer (modeOf u) (bytesIn key) (bytesIn iv) (bytesIn aad) [] (bytesIn plain) lentRoom) (length (bytesIn plain) + modeOf u .tagSize)) malformed
 
-unfoldable pub decryptCase : Bool → List ℕ → List ℕ → List ℕ → List ℕ → List ℕ → Outcome
-decryptCase isGcm key iv aad text tag =
+unfoldable pub decryptCase : ℕ → List ℕ → List ℕ → List ℕ → List ℕ → List ℕ → Outcome
+decryptCase u key iv aad text tag =
     when (every (isBytes key ∷ isBytes iv ∷ isBytes aad ∷ isBytes text ∷ isBytes tag ∷ []))
-    (ran (decryptAnswer (modeBy isGcm) (bytesIn key) (bytesIn iv) (bytesIn aad) [] (bytesIn text) (bytesIn tag) lentRoom) (length (bytesIn text))) malformed
+    (ran (decryptAnswer (modeOf u) (bytesIn key) (bytesIn iv) (bytesIn aad) [] (bytesIn text) (bytesIn tag) lentRoom) (length (bytesIn text))) malformed
 
 unfoldable pub wrapCase : List ℕ → List ℕ → Outcome
 wrapCase kek key = when (every (isBytes kek ∷ isBytes key ∷ [])) (ran (wrapAnswer (bytesIn kek) (bytesIn key) lentRoom) wrappedSize) malformed

@@ -3,8 +3,9 @@
 use mathlib.Core.Path.{_≡_}
 use mathlib.Core.List.{List, [], _∷_, _++_}
 use Prim.Native.Nat.{ℕ, _≤_}
+use Rattle.octets.specs.Unique.{Unique}
 use Rattle.cases.specs.Words.{space, wordsOf}
-use Rattle.cases.specs.Case.{outMax, Outcome}
+use Rattle.cases.specs.Case.{outMax}
 use Rattle.cases.specs.Line.{caseOutcome}
 
 -- words with one space between each two
@@ -23,4 +24,4 @@ SizeFits = (line bytes : List ℕ) (kind number size : ℕ) → caseOutcome line
 
 -- for each line one outcome
 abbrev pub RunUnique : Type 0
-RunUnique = (line : List ℕ) (a b : Outcome) → caseOutcome line ≡ a → caseOutcome line ≡ b → a ≡ b
+RunUnique = (line : List ℕ) → Unique (caseOutcome line)

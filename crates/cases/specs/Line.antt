@@ -2,7 +2,7 @@
 -- Assumes nothing.
 use Prim.Native.Nat.{ℕ}
 use mathlib.Core.Bool.{Bool, true, false}
-use mathlib.Core.List.{List, [], _∷_}
+use mathlib.Core.List.{List}
 use lib.Dec.{eqb}
 use lib.ListN.{length, getD}
 use Rattle.octets.specs.Lent.{when}
@@ -65,16 +65,16 @@ module _ (line : List ℕ) where
 
   -- NAME ccm key iv aad plain cipher tag
   unfoldable pub ofEight : Outcome
-  ofEight = when (says ccmWord) (encryptCase false (wordAt line 2) (wordAt line 3) (wordAt line 4) (wordAt line 5)) malformed
+  ofEight = when (says ccmWord) (encryptCase 1 (wordAt line 2) (wordAt line 3) (wordAt line 4) (wordAt line 5)) malformed
 
   -- NAME E|D number key iv aad plain cipher tag
-  abbrev pub ofMode : Bool → Outcome
-  ofMode isGcm =
-      when (says there) (encryptCase isGcm (wordAt line 3) (wordAt line 4) (wordAt line 5) (wordAt line 6))
-      (when (says back) (decryptCase isGcm (wordAt line 3) (wordAt line 4) (wordAt line 5) (wordAt line 7) (wordAt line 8)) malformed)
+  abbrev pub ofMode : ℕ → Outcome
+  ofMode u =
+      when (says there) (encryptCase u (wordAt line 3) (wordAt line 4) (wordAt line 5) (wordAt line 6))
+      (when (says back) (decryptCase u (wordAt line 3) (wordAt line 4) (wordAt line 5) (wordAt line 7) (wordAt line 8)) malformed)
 
   unfoldable pub ofNine : Outcome
-  ofNine = when (nameBegins gcmName) (ofMode true) (when (nameBegins ccmName) (ofMode false) malformed)
+  ofNine = when (nameBegins gcmName) (ofMode 2) (when (nameBegins ccmName) (ofMode 1) malformed)
 
   unfoldable pub byCount : ℕ → Outcome
   byCount n = when (eqb n 5) ofFive (when (eqb n 6) ofSix (when (eqb n 8) ofEight (when (eqb n 9) ofNine malformed)))

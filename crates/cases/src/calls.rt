@@ -8,10 +8,10 @@ ghost use mathlib.Core.List.{[]};
 ghost use Prim.Native.Nat.{_+_, _≤_};
 ghost use lib.ListN.{length};
 ghost use Rattle.octets.specs.Lent.{answer};
+ghost use Rattle.modes.specs.Modes.{modeOf};
 ghost use Rattle.modes.specs.Calls.{encryptAnswer, decryptAnswer};
 ghost use Rattle.keywrap.specs.Calls.{keySize, wrappedSize, wrapAnswer, unwrapAnswer};
-ghost use Rattle.modes.specs.Ccm.{tagSize};
-ghost use Rattle.cases.specs.Case.{wordMax, lentRoom, ran, rounds, blockBy, modeBy};
+ghost use Rattle.cases.specs.Case.{wordMax, lentRoom, ran, rounds, blockBy};
 
 // AES-256, one block that many times over.
 
@@ -52,55 +52,29 @@ pub(crate) fn run_block(there: bool, times: usize, key: &[u8], block: &[u8]) -> 
     ran_case(0, size, out)
 }
 
-// A mode.
+// A mode called by itself: the second part of its associated data is empty.
 
-fn encrypt_by(is_gcm: bool, key: &[u8], iv: &[u8], aad: &[u8], plain: &[u8], out: &mut [u8]) -> u8
-    ensures { λ r. ⌜ encryptAnswer (modeBy «is_gcm») (now (key .entry)) (now (iv .entry)) (now (aad .entry)) [] (now (plain .entry)) (now (out .entry)) ≡ (r, now (out .exit)) ⌝ }
-{
-    if is_gcm {
-        return modes::gcm::encrypt(key, iv, aad, plain, out);
-    }
-    modes::ccm::encrypt(key, iv, aad, plain, out)
-}
-
-pub(crate) fn run_encrypt(is_gcm: bool, key: &[u8], iv: &[u8], aad: &[u8], plain: &[u8]) -> Outcome
+pub(crate) fn run_encrypt(u: u8, key: &[u8], iv: &[u8], aad: &[u8], plain: &[u8]) -> Outcome
     requires { ⌜ length (now plain) ≤ wordMax ⌝ }
-    ensures { λ r. ⌜ ran (encryptAnswer (modeBy «is_gcm») (now (key .entry)) (now (iv .entry)) (now (aad .entry)) [] (now (plain .entry)) lentRoom) (length (now (plain .entry)) + tagSize) ≡ (r .kind, r .number, r .size, r .bytes) ⌝ }
+    ensures { λ r. ⌜ ran (encryptAnswer (modeOf u) (now (key .entry)) (now (iv .entry)) (now (aad .entry)) [] (now (plain .entry)) lentRoom) (length (now (plain .entry)) + modeOf u .tagSize) ≡ (r .kind, r .number, r .size, r .bytes) ⌝ }
 {
     let mut out = out_room();
-    let number = encrypt_by(is_gcm, key, iv, aad, plain, &mut out);
-    ran_case(number, plain.len() + 16, out)
-}
-
-fn decrypt_by(
-    is_gcm: bool,
-    key: &[u8],
-    iv: &[u8],
-    aad: &[u8],
-    text: &[u8],
-    tag: &[u8],
-    out: &mut [u8],
-) -> u8
-    ensures { λ r. ⌜ decryptAnswer (modeBy «is_gcm») (now (key .entry)) (now (iv .entry)) (now (aad .entry)) [] (now (text .entry)) (now (tag .entry)) (now (out .entry)) ≡ (r, now (out .exit)) ⌝ }
-{
-    if is_gcm {
-        return modes::gcm::decrypt(key, iv, aad, text, tag, out);
-    }
-    modes::ccm::decrypt(key, iv, aad, text, tag, out)
+    let number = modes::encrypt(u, key, iv, aad, &aad[..0], plain, &mut out);
+    ran_case(number, plain.len() + modes::tag_size(u), out)
 }
 
 pub(crate) fn run_decrypt(
-    is_gcm: bool,
+    u: u8,
     key: &[u8],
     iv: &[u8],
     aad: &[u8],
     text: &[u8],
     tag: &[u8],
 ) -> Outcome
-    ensures { λ r. ⌜ ran (decryptAnswer (modeBy «is_gcm») (now (key .entry)) (now (iv .entry)) (now (aad .entry)) [] (now (text .entry)) (now (tag .entry)) lentRoom) (length (now (text .entry))) ≡ (r .kind, r .number, r .size, r .bytes) ⌝ }
+    ensures { λ r. ⌜ ran (decryptAnswer (modeOf u) (now (key .entry)) (now (iv .entry)) (now (aad .entry)) [] (now (text .entry)) (now (tag .entry)) lentRoom) (length (now (text .entry))) ≡ (r .kind, r .number, r .size, r .bytes) ⌝ }
 {
     let mut out = out_room();
-    let number = decrypt_by(is_gcm, key, iv, aad, text, tag, &mut out);
+    let number = modes::decrypt(u, key, iv, aad, &aad[..0], text, tag, &mut out);
     ran_case(number, text.len(), out)
 }
 

@@ -87,8 +87,8 @@ pub(crate) fn unwrap_case(kek: &[u8], wrapped: &[u8]) -> Outcome
     broken_case()
 }
 
-pub(crate) fn encrypt_case(is_gcm: bool, key: &[u8], iv: &[u8], aad: &[u8], plain: &[u8]) -> Outcome
-    ensures { λ r. ⌜ encryptCase «is_gcm» (now (key .entry)) (now (iv .entry)) (now (aad .entry)) (now (plain .entry)) ≡ (r .kind, r .number, r .size, r .bytes) ⌝ }
+pub(crate) fn encrypt_case(u: u8, key: &[u8], iv: &[u8], aad: &[u8], plain: &[u8]) -> Outcome
+    ensures { λ r. ⌜ encryptCase u (now (key .entry)) (now (iv .entry)) (now (aad .entry)) (now (plain .entry)) ≡ (r .kind, r .number, r .size, r .bytes) ⌝ }
 {
     let mut keys = word_room();
     let mut ivs = word_room();
@@ -100,7 +100,7 @@ pub(crate) fn encrypt_case(is_gcm: bool, key: &[u8], iv: &[u8], aad: &[u8], plai
     let p = read_word(plain, &mut texts);
     if k.right & i.right & a.right & p.right {
         return run_encrypt(
-            is_gcm,
+            u,
             part(&keys, 0, k.size),
             part(&ivs, 0, i.size),
             part(&aads, 0, a.size),
@@ -111,14 +111,14 @@ pub(crate) fn encrypt_case(is_gcm: bool, key: &[u8], iv: &[u8], aad: &[u8], plai
 }
 
 pub(crate) fn decrypt_case(
-    is_gcm: bool,
+    u: u8,
     key: &[u8],
     iv: &[u8],
     aad: &[u8],
     text: &[u8],
     tag: &[u8],
 ) -> Outcome
-    ensures { λ r. ⌜ decryptCase «is_gcm» (now (key .entry)) (now (iv .entry)) (now (aad .entry)) (now (text .entry)) (now (tag .entry)) ≡ (r .kind, r .number, r .size, r .bytes) ⌝ }
+    ensures { λ r. ⌜ decryptCase u (now (key .entry)) (now (iv .entry)) (now (aad .entry)) (now (text .entry)) (now (tag .entry)) ≡ (r .kind, r .number, r .size, r .bytes) ⌝ }
 {
     let mut keys = word_room();
     let mut ivs = word_room();
@@ -132,7 +132,7 @@ pub(crate) fn decrypt_case(
     let t = read_word(tag, &mut tags);
     if k.right & i.right & a.right & c.right & t.right {
         return run_decrypt(
-            is_gcm,
+            u,
             part(&keys, 0, k.size),
             part(&ivs, 0, i.size),
             part(&aads, 0, a.size),

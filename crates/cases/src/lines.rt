@@ -64,7 +64,7 @@ fn of_eight(line: &[u8]) -> Outcome
 {
     if is_word(line, 1, b"ccm") {
         return encrypt_case(
-            false,
+            1,
             word(line, 2),
             word(line, 3),
             word(line, 4),
@@ -74,12 +74,12 @@ fn of_eight(line: &[u8]) -> Outcome
     broken_case()
 }
 
-fn of_mode(line: &[u8], is_gcm: bool) -> Outcome
-    ensures { λ r. ⌜ ofMode (now (line .entry)) «is_gcm» ≡ (r .kind, r .number, r .size, r .bytes) ⌝ }
+fn of_mode(line: &[u8], u: u8) -> Outcome
+    ensures { λ r. ⌜ ofMode (now (line .entry)) u ≡ (r .kind, r .number, r .size, r .bytes) ⌝ }
 {
     if is_word(line, 1, b"E") {
         return encrypt_case(
-            is_gcm,
+            u,
             word(line, 3),
             word(line, 4),
             word(line, 5),
@@ -88,7 +88,7 @@ fn of_mode(line: &[u8], is_gcm: bool) -> Outcome
     }
     if is_word(line, 1, b"D") {
         return decrypt_case(
-            is_gcm,
+            u,
             word(line, 3),
             word(line, 4),
             word(line, 5),
@@ -103,10 +103,10 @@ fn of_nine(line: &[u8]) -> Outcome
     ensures { λ r. ⌜ ofNine (now (line .entry)) ≡ (r .kind, r .number, r .size, r .bytes) ⌝ }
 {
     if name_begins(line, b"gcm") {
-        return of_mode(line, true);
+        return of_mode(line, 2);
     }
     if name_begins(line, b"VNT") {
-        return of_mode(line, false);
+        return of_mode(line, 1);
     }
     broken_case()
 }

@@ -5,20 +5,19 @@ use mathlib.Core.Bool.{Bool, true, false, not}
 use mathlib.Core.List.{List, [], _∷_}
 use Prim.Native.Nat.{ℕ, _+_, _≤_}
 use native.Mathlib.Omega.{arith}
-use borrow.Author.Tests.{le-ltb}
 use lib.ListN.{length}
 use Rattle.octets.specs.Lent.{lowest, over, answer}
 use Rattle.octets.specs.Tests.{partOf}
-use Rattle.octets.proofs.Lent.{isNot-right}
 use Rattle.keytable.specs.Row.{keySize}
 use Rattle.modes.specs.Calls.{decryptAnswer}
-use Rattle.modes.proofs.Numbers.{sizes-right, tooLong-short, decrypt-opened}
-use Rattle.record.specs.Record.{modeOf, modeFor, modeIn, countIn, nameSize, layoutOk, frontIn, ivIn, textIn, tagIn}
+use Rattle.modes.proofs.Numbers.{decrypt-in-range}
+use Rattle.modes.specs.Modes.{modeOf}
+use Rattle.record.specs.Record.{modeFor, modeIn, countIn, nameSize, layoutOk, frontIn, ivIn, textIn, tagIn}
 use Rattle.record.specs.Read.{passes}
 use Rattle.record.specs.Seal.{callersMax}
 use Rattle.record.specs.Open.{authenticBy, plaintextBy}
-use Rattle.record.proofs.Numbers.{iv-size, tag-size, key-size}
-use Rattle.record.proofs.Parts.{length-frontIn, length-ivIn, length-textIn, length-tagIn}
+use Rattle.record.proofs.Numbers.{key-size}
+use Rattle.record.proofs.Parts.{length-frontIn, length-ivIn, length-textIn, length-tagIn, permits-textIn}
 use Rattle.record.proofs.Reading.{Accepted, name-short, count-small}
 
 -- what the tag decided, by the number that was answered
@@ -44,22 +43,16 @@ pub parts-opened : (key r a out : List ℕ) → layoutOk r ≡ true → passes (
     ≡ answer (lowest ((9, not (authenticBy key r a)) ∷ [])) (plaintextBy key r) out
 unfolding authenticBy plaintextBy
 parts-opened key r a out good short key-right aad-short room =
-    decrypt-opened (modeFor r) key (ivIn r) (frontIn r) a (textIn r) (tagIn r) out
-    (sizes-right _ _ key (ivIn r) (key-right ∙ sym (key-size (modeIn r))) (length-ivIn r good))
-    (isNot-right _ (tagIn r) (length-tagIn r good))
-    (tooLong-short (frontIn r) a (textIn r) (omega (arith, length-frontIn r good, name-short r short)) (omega (arith, length-textIn r good, count-small r short)))
-    (le-ltb (length out) (length (textIn r)) (omega (arith, length-textIn r good)))
+    decrypt-in-range (modeFor r) key (ivIn r) (frontIn r) a (textIn r) (tagIn r) out
+    (key-right ∙ sym (key-size (modeIn r))) (length-ivIn r good) (permits-textIn r good) (length-tagIn r good)
+    (omega (arith, length-frontIn r good, name-short r short)) (omega (arith, length-textIn r good, count-small r short)) (omega (arith, length-textIn r good))
 
--- the same, of parts cut by fields that were read, and by the lengths of both modes
-module _ (key r a out : List ℕ) (u k n : ℕ) (is : Accepted r u k n) (key-right : length key ≡ keySize) (aad-short : length a ≤ callersMax) (room : n ≤ length out) where
-  by-lengths : (v t : ℕ) → v ≡ modeFor r .ivSize → t ≡ modeFor r .tagSize
-      → decryptAnswer (modeOf u) key (partOf r (24 + k) v) (partOf r 0 (24 + k)) a (partOf r (24 + k + v) n) (partOf r (24 + k + v + n) t) out
-      ≡ answer (lowest ((9, not (authenticBy key r a)) ∷ [])) (plaintextBy key r) out
-  unfolding ivIn frontIn textIn tagIn
-  by-lengths v t ev et =
-      rw (ev, et, is .mode-is, is .size-is, is .count-is)
-      (parts-opened key r a out (is .layout) (is .short) key-right aad-short (omega (arith, is .count-is)))
-
-  pub fields-opened : decryptAnswer (modeOf u) key (partOf r (24 + k) 12) (partOf r 0 (24 + k)) a (partOf r (24 + k + 12) n) (partOf r (24 + k + 12 + n) 16) out
-      ≡ answer (lowest ((9, not (authenticBy key r a)) ∷ [])) (plaintextBy key r) out
-  fields-opened = by-lengths 12 16 (sym (iv-size (modeIn r))) (sym (tag-size (modeIn r)))
+-- the same, of parts cut by fields that were read, and by the mode's lengths
+pub fields-opened : (key r a out : List ℕ) (u k n v t : ℕ) → Accepted r u k n → v ≡ modeOf u .ivSize → t ≡ modeOf u .tagSize
+    → length key ≡ keySize → length a ≤ callersMax → n ≤ length out
+    → decryptAnswer (modeOf u) key (partOf r (24 + k) v) (partOf r 0 (24 + k)) a (partOf r (24 + k + v) n) (partOf r (24 + k + v + n) t) out
+    ≡ answer (lowest ((9, not (authenticBy key r a)) ∷ [])) (plaintextBy key r) out
+unfolding ivIn frontIn textIn tagIn
+fields-opened key r a out u k n v t is ev et key-right aad-short room =
+    rw (ev, et, is .mode-is, is .size-is, is .count-is)
+    (parts-opened key r a out (is .layout) (is .short) key-right aad-short (omega (arith, is .count-is)))

@@ -1,16 +1,17 @@
 -- What an output held before never matters, only its length.
 -- Assumes nothing.
 use mathlib.Core.Path.{_≡_, sym, ap, _∙_}
-use mathlib.Core.Bool.{Bool}
 use mathlib.Core.List.{List}
-use mathlib.Core.Option.{Option, some, none}
 use Prim.Native.Nat.{ℕ, _≤_}
 use native.Mathlib.Omega.{arith}
 use lib.ListN.{length, take, drop}
+use Rattle.octets.specs.Bytes.{Bytes}
 use Rattle.octets.specs.Lent.{over, answer}
+use Rattle.octets.proofs.Bytes.{bytes-append}
+use Rattle.octets.proofs.BigEndian.{bytes-be}
 use Rattle.keytable.specs.Row.{useOf, keyOf}
-use Rattle.keytable.specs.Table.{tableOk, rowFor}
-use Rattle.session.specs.Iv.{ivOf}
+use Rattle.keytable.specs.Table.{tableOk, dataRow}
+use Rattle.session.specs.Iv.{fieldSize, ivOf}
 use Rattle.session.specs.Calls.{sessionAfter}
 use Rattle.record.specs.Record.{countIn, nameIn}
 use Rattle.record.specs.Seal.{recordBy, sealedSize, sealNumber, sealRow}
@@ -18,9 +19,9 @@ use Rattle.record.specs.Open.{plaintextIn, openNumber, openRow}
 use Rattle.record.specs.Next.{sealNextNumber, sealNextRow}
 use Rattle.record.specs.Laws.{Alike, SealEarlier, NextEarlier, OpenEarlier}
 use Rattle.octets.proofs.Lent.{answer-done, take-over, drop-over}
-use Rattle.record.proofs.Sealed.{seal-row, sealable, length-recordOf}
+use Rattle.record.proofs.Sealed.{in-range, length-recordOf, row-keyed}
 use Rattle.record.proofs.WithSession.{next-zero}
-use Rattle.record.proofs.Opened.{open-row, openable, length-plaintextBy}
+use Rattle.record.proofs.Opened.{open-row, openable, open-keyed, length-plaintextBy}
 
 -- where a result comes with 0, it has its size and fits the output
 abbrev Fits : ℕ → ℕ → List ℕ → ℕ → Type 0
@@ -49,47 +50,50 @@ answers-alike n n′ size result out out′ same-number same-room fits =
 
 -- ---- sealing
 
-none-some : {row : List ℕ} → none ≡ some row → ⊥
-none-some q = let z : _≡_ {A = ℕ} 0 1 = cc in omega arith
-
-record-fits : (ok : Bool) (o : Option (List ℕ)) (name iv a p : List ℕ) (room : ℕ)
-    → Fits (sealNumber ok o name iv a p room) (sealedSize o name p) (recordBy o name iv a p) room
-record-fits ok none name iv a p room e = absurd (none-some (seal-row ok name iv a p room none e .1))
-record-fits ok (some row) name iv a p room e =
-    let h = sealable ok name iv a p room row e in (length-recordOf (useOf row) (keyOf row) name iv a p (h .iv-long), h .fits)
+module _ (t name iv a p : List ℕ) (room : ℕ) (table-bytes : Bytes t) (iv-bytes : Bytes iv) where
+  record-fits : Fits (sealNumber (tableOk t) (dataRow t name) name iv a (length p) room) (sealedSize (dataRow t name) name (length p)) (recordBy (dataRow t name) name iv a p) room
+  record-fits e =
+      let h = in-range (tableOk t) name iv a (length p) room (dataRow t name) e in
+      rw (h .has-row) (
+        length-recordOf (useOf (h .row)) (keyOf (h .row)) name iv a p (row-keyed t name (h .row) iv table-bytes iv-bytes (h .accepted) (h .has-row) (h .iv-size)) (h .permitted),
+        h .room-fits,
+      )
 
 pub seal-alike : SealEarlier
 unfolding sealRow
-seal-alike t name iv a p out out′ same =
-    answers-alike (number (length out)) (number (length out′)) (sealedSize (rowFor t name) name p) (recordBy (rowFor t name) name iv a p) out out′
-    (ap number same) same (record-fits (tableOk t) (rowFor t name) name iv a p (length out))
+seal-alike t name iv a p out out′ table-bytes iv-bytes same =
+    answers-alike (number (length out)) (number (length out′)) (sealedSize (dataRow t name) name (length p)) (recordBy (dataRow t name) name iv a p) out out′
+    (ap number same) same (record-fits t name iv a p (length out) table-bytes iv-bytes)
   where
     number : ℕ → ℕ
-    number room = sealNumber (tableOk t) (rowFor t name) name iv a p room
+    number room = sealNumber (tableOk t) (dataRow t name) name iv a (length p) room
 
 pub next-alike : NextEarlier
 unfolding sealNextRow
-next-alike s t name a p out out′ same = (
-  answers-alike (number (length out)) (number (length out′)) (sealedSize (rowFor t name) name p) (recordBy (rowFor t name) name (ivOf s) a p) out out′
+next-alike s t name a p out out′ table-bytes prefix-bytes same = (
+  answers-alike (number (length out)) (number (length out′)) (sealedSize (dataRow t name) name (length p)) (recordBy (dataRow t name) name (ivOf s) a p) out out′
       (ap number same) same
-      (λ e. record-fits (tableOk t) (rowFor t name) name (ivOf s) a p (length out) (next-zero s (tableOk t) (rowFor t name) name a p (length out) e .0)),
+      (λ e.
+      record-fits t name (ivOf s) a p (length out) table-bytes (bytes-append prefix-bytes (bytes-be fieldSize (s .next)))
+      (next-zero s (tableOk t) (dataRow t name) name a p (length out) e .0)),
   ap (λ (n : ℕ). sessionAfter (number n) s) same,
 )
   where
     number : ℕ → ℕ
-    number room = sealNextNumber s (tableOk t) (rowFor t name) name a p room
+    number room = sealNextNumber s (tableOk t) (dataRow t name) name a (length p) room
 
 -- ---- opening
 
-plaintext-fits : (ok : Bool) (o : Option (List ℕ)) (r a : List ℕ) (room : ℕ) → Fits (openNumber ok o r a room) (countIn r) (plaintextIn o r) room
-plaintext-fits ok none r a room e = absurd (none-some (open-row ok r a room none e .1))
-plaintext-fits ok (some row) r a room e = let h = openable ok r a room row e in (length-plaintextBy (keyOf row) r (h .layout), h .fits)
-
 pub open-alike : OpenEarlier
 unfolding openRow
-open-alike t r a out out′ count count′ same =
-    answers-alike (number (length out)) (number (length out′)) (countIn r) (plaintextIn (rowFor t (nameIn r)) r) out out′ (ap number same) same
-    (plaintext-fits (tableOk t) (rowFor t (nameIn r)) r a (length out))
+open-alike t r a out out′ count count′ table-bytes bytes same =
+    answers-alike (number (length out)) (number (length out′)) (countIn r) (plaintextIn (dataRow t (nameIn r)) r) out out′ (ap number same) same fits
   where
     number : ℕ → ℕ
-    number room = openNumber (tableOk t) (rowFor t (nameIn r)) r a room
+    number room = openNumber (tableOk t) (dataRow t (nameIn r)) r a room
+
+    fits : Fits (number (length out)) (countIn r) (plaintextIn (dataRow t (nameIn r)) r) (length out)
+    fits e =
+        let (row, has) = open-row (tableOk t) r a (length out) (dataRow t (nameIn r)) e in
+        let h = openable (tableOk t) r a (length out) row (rw has at e) in
+        rw has (length-plaintextBy (keyOf row) r (open-keyed t r a row (length out) table-bytes bytes has h) (h .layout), h .fits)

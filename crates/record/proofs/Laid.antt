@@ -11,7 +11,8 @@ use Rattle.octets.specs.Tests.{partOf}
 use Rattle.octets.proofs.Tests.{part-at, part-after}
 use Rattle.keytable.specs.Row.{nameMax}
 use Rattle.modes.specs.Calls.{textMax}
-use Rattle.record.specs.Record.{modeOf, ivAt, textAt, tagAt, endAt, layoutOk, frontIn, ivIn, textIn, tagIn, front}
+use Rattle.modes.specs.Modes.{modeOf}
+use Rattle.record.specs.Record.{ivAt, textAt, tagAt, endAt, layoutOk, frontIn, ivIn, textIn, tagIn, front}
 use Rattle.record.specs.Laws.{ReadBack}
 use Rattle.record.proofs.Parts.{Kept, kept-layout}
 use Rattle.record.proofs.Written.{length-front, read-back, front-kept}
@@ -34,12 +35,12 @@ module _ (u : ℕ) (name : List ℕ) (n : ℕ) (iv c g : List ℕ) (iv-long : le
   length-laid =
       omega (arith, length-append (front u name n) (iv ++ (c ++ g)), length-front u name n, length-append iv (c ++ g), length-append c g)
 
-  module _ (named : 1 ≤ length name) (short : length name ≤ nameMax) (few : n ≤ textMax) where
+  module _ (named : 1 ≤ length name) (permitted : modeOf u .permits n ≡ true) (short : length name ≤ nameMax) (few : n ≤ textMax) where
     fields : ReadBack u n name (laid u name n iv c g)
     fields = read-back u n name (iv ++ (c ++ g)) short few
 
     kept : Kept (laid u name n iv c g)
-    kept = front-kept u n name (iv ++ (c ++ g)) short few named length-laid
+    kept = front-kept u n name (iv ++ (c ++ g)) short few named permitted length-laid
 
     -- the places, once the fields are known
     places : (r : List ℕ) → laid u name n iv c g ≡ r → ReadBack u n name r

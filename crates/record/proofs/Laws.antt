@@ -4,95 +4,89 @@ use mathlib.Core.Path.{_≡_, refl, sym, ap, _∙_}
 use mathlib.Core.Bool.{Bool, true, false}
 use mathlib.Core.List.{List}
 use Prim.Native.Nat.{ℕ}
-use native.Mathlib.Omega.{arith}
 use borrow.Author.Tests.{eqb-true}
 use lib.Dec.{eqb}
 use lib.ListN.{length, getD}
 use Rattle.octets.specs.Lent.{when}
-use Rattle.octets.proofs.Lent.{one-answer}
+use Rattle.octets.specs.Bytes.{Bytes}
+use Rattle.octets.proofs.Lent.{over-injective}
+use Rattle.octets.proofs.Unique.{unique, unique-by}
 use Rattle.keytable.specs.Row.{useOf, keyOf}
-use Rattle.keytable.specs.Table.{tableOk, rowFor}
+use Rattle.keytable.specs.Table.{tableOk, dataRow}
 use Rattle.record.specs.Record.{nameIn, ivIn}
-use Rattle.record.specs.Read.{headerSays}
-use Rattle.record.specs.Open.{plaintextBy, openNumber}
+use Rattle.record.specs.Read.{headerSays, readNumber, readAnswer}
+use Rattle.record.specs.Seal.{sealAnswer}
+use Rattle.record.specs.Open.{plaintextBy, openNumber, openAnswer}
 use Rattle.record.specs.Demand3.{Refuses, OpensExactly, OnePlaintext, OneOpening, ElseRefuses, SealedOpens}
-use Rattle.record.specs.Laws.{HeaderThere, HeaderBack, SealOtherRows, OpenOtherRows, SealEarlier, NextEarlier, OpenEarlier, ReadUnique, CheckUnique, SealUnique, OpenUnique}
+use Rattle.record.specs.Laws.{HeaderThere, HeaderBack, SealsInRange, SealsOnlyInRange, SealOtherRows, OpenOtherRows, SealEarlier, NextEarlier, OpenEarlier, ReadUnique, CheckUnique, SealUnique, OpenUnique, ReadTestsRise, SealTestsRise, TagTestsRise, OpenTestsRise}
 use Rattle.record.specs.declared.header.Header.{Header}
 use Rattle.record.specs.declared.header.Header.the-variants.{Fields, BadForm, BadMode, TooLong}
 use Rattle.record.proofs.Written.{read-back, front-back}
 use Rattle.record.proofs.Laid.{Laid}
-use Rattle.record.proofs.Sealed.{textBy, tagBy, SealedAs, seals-as, as-seals, as-laid}
-use Rattle.record.proofs.Opened.{OpenedAs, open-row, openable, open-refused, opens-as, as-opens}
+use Rattle.record.proofs.Sealed.{range-sealed, zero-told, textBy, tagBy, SealedAs, as-keyed, seals-as, as-seals, as-laid}
+use Rattle.record.proofs.Opened.{OpenedAs, open-refused, open-number, opened-row, opens-size, opens-as, as-opens}
 use Rattle.record.proofs.Exactly.{plaintext-back, opened-sealed, sealed-opened}
 use Rattle.record.proofs.Earlier.{seal-alike, next-alike, open-alike}
 
 -- ---- demand 3
 
 pub opens-exactly : OpensExactly
-opens-exactly t r a out count p given = (
-  λ h. as-seals t (nameIn r) (ivIn r) a p r (opened-sealed t r a out p (given .bytes) (opens-as t r a out count p h)),
-  λ h. as-opens t r a out count p (sealed-opened t r a out p (given .room) (seals-as t (nameIn r) (ivIn r) a p r h)),
+opens-exactly t r a out count p table-bytes bytes room = (
+  λ h. as-seals t (nameIn r) (ivIn r) a p r table-bytes (opened-sealed t r a out p table-bytes bytes (opens-as t r a out count table-bytes bytes p h)),
+  λ h. as-opens t r a out count table-bytes bytes p (sealed-opened t r a out p table-bytes bytes room (seals-as t (nameIn r) (ivIn r) a p r table-bytes bytes h)),
 )
 
 -- the plaintext that sealing by a row made r of
-undone : (t name iv a p r : List ℕ) (s : SealedAs t name iv a p r) → plaintextBy (keyOf (s .row)) r ≡ p
-undone t name iv a p r s = plaintext-back (useOf (s .row)) (keyOf (s .row)) name iv a p r (as-laid t name iv a p r s)
+undone : (t name iv a p r : List ℕ) → Bytes t → (s : SealedAs t name iv a p r) → plaintextBy (keyOf (s .able .row)) r ≡ p
+undone t name iv a p r bytes s =
+    plaintext-back (useOf (s .able .row)) (keyOf (s .able .row)) name iv a p r (as-keyed t name iv a p r bytes s) (s .able .permitted) (s .bytes)
+    (as-laid t name iv a p r bytes s)
 
 pub one-plaintext : OnePlaintext
-one-plaintext t name iv a p p′ r h h′ =
-    sym (undone t name iv a p r s) ∙ ap (λ (row : List ℕ). plaintextBy (keyOf row) r) same-row ∙ undone t name iv a p′ r s′
+one-plaintext t name iv a p p′ r table-bytes bytes h h′ =
+    sym (undone t name iv a p r table-bytes s) ∙ ap (λ (row : List ℕ). plaintextBy (keyOf row) r) same-row ∙ undone t name iv a p′ r table-bytes s′
   where
     s : SealedAs t name iv a p r
-    s = seals-as t name iv a p r h
+    s = seals-as t name iv a p r table-bytes bytes h
 
     s′ : SealedAs t name iv a p′ r
-    s′ = seals-as t name iv a p′ r h′
+    s′ = seals-as t name iv a p′ r table-bytes bytes h′
 
-    same-row : s .row ≡ s′ .row
-    same-row = cc (s .has-row, s′ .has-row)
+    same-row : s .able .row ≡ s′ .able .row
+    same-row = cc (s .able .has-row, s′ .able .has-row)
 
 pub one-opening : OneOpening
-one-opening t r a out count p p′ h h′ = sym (s .is) ∙ ap (λ (row : List ℕ). plaintextBy (keyOf row) r) same-row ∙ s′ .is
-  where
-    s : OpenedAs t r a out p
-    s = opens-as t r a out count p h
-
-    s′ : OpenedAs t r a out p′
-    s′ = opens-as t r a out count p′ h′
-
-    same-row : s .row ≡ s′ .row
-    same-row = cc (s .has-row, s′ .has-row)
+one-opening t r a out count p p′ h h′ =
+    let (size, fits) = opens-size t r a out count p h in
+    let (size′, fits′) = opens-size t r a out count p′ h′ in
+    over-injective p p′ out (sym size ∙ size′) fits′ (ap (λ (x : (ℕ × List ℕ) × ℕ). x .0 .1) (sym (h .answers) ∙ h′ .answers))
 
 pub else-refuses : ElseRefuses
-else-refuses t r a out count given none = go (eqb number 0) refl
+else-refuses t r a out count table-bytes bytes none = go (eqb number 0) refl
   where
     number : ℕ
-    number = openNumber (tableOk t) (rowFor t (nameIn r)) r a (length out)
+    number = openNumber (tableOk t) (dataRow t (nameIn r)) r a (length out)
 
     -- where the number is 0, some p is opened
     not-zero : number ≡ 0 → ⊥
     not-zero e =
-        let (row, has) = open-row (tableOk t) r a (length out) (rowFor t (nameIn r)) e in
-        let able = openable (tableOk t) r a (length out) row (rw has at e) in
+        let (row, has, able) = opened-row t r a out count (open-number t r a out count ∙ e) in
         let opened : OpenedAs t r a out (plaintextBy (keyOf row) r) = record { row = row; has-row = has; able = able; is = refl } in
-        none (plaintextBy (keyOf row) r) (as-seals t (nameIn r) (ivIn r) a _ r (opened-sealed t r a out _ (given .bytes) opened))
+        none (plaintextBy (keyOf row) r) (as-seals t (nameIn r) (ivIn r) a _ r table-bytes (opened-sealed t r a out _ table-bytes bytes opened))
 
     go : (b : Bool) → eqb number 0 ≡ b → Refuses t r a out count
     go true e = absurd (not-zero (eqb-true number 0 e))
-    go false e = record { number = number; not-zero = not-zero; answers = open-refused (tableOk t) (rowFor t (nameIn r)) r a out count e }
+    go false e = record { number = number; not-zero = not-zero; answers = open-refused (tableOk t) (dataRow t (nameIn r)) r a out count e }
 
 pub sealed-opens : SealedOpens
-sealed-opens t name iv a p r out count h room =
-    as-opens t r a out count p (sealed-opened t r a out p (omega (arith, read .fields .count)) by-its-fields)
+sealed-opens t name iv a p r out count table-bytes bytes h room =
+    opens-exactly t r a out count p table-bytes bytes room .1 (rw (read .fields .name-is, read .iv-is) h)
   where
     s : SealedAs t name iv a p r
-    s = seals-as t name iv a p r h
+    s = seals-as t name iv a p r table-bytes bytes h
 
-    read : Laid (useOf (s .row)) name (length p) iv (textBy (useOf (s .row)) (keyOf (s .row)) iv p) (tagBy (useOf (s .row)) (keyOf (s .row)) name iv a p) r
-    read = as-laid t name iv a p r s
-
-    by-its-fields : SealedAs t (nameIn r) (ivIn r) a p r
-    by-its-fields = rw (read .fields .name-is, read .iv-is) s
+    read : Laid (useOf (s .able .row)) name (length p) iv (textBy (useOf (s .able .row)) (keyOf (s .able .row)) iv p) (tagBy (useOf (s .able .row)) (keyOf (s .able .row)) name iv a p) r
+    read = as-laid t name iv a p r table-bytes s
 
 -- ---- the header, there and back
 
@@ -101,6 +95,14 @@ header-there u n name rest short few = read-back u n name rest short few
 
 pub header-back : HeaderBack
 header-back r bytes layout = front-back r bytes layout
+
+-- ---- sealing in range
+
+pub seals-in-range : SealsInRange
+seals-in-range = range-sealed
+
+pub seals-only-in-range : SealsOnlyInRange
+seals-only-in-range = zero-told
 
 -- ---- other rows
 
@@ -137,13 +139,27 @@ headerIn-says BadMode = refl
 headerIn-says TooLong = refl
 
 pub read-unique : ReadUnique
-read-unique r x y p q = sym (headerIn-says x) ∙ ap headerIn (p ∙ sym q) ∙ headerIn-says y
+read-unique r = unique-by headerSays headerIn headerIn-says (readAnswer r)
 
 pub check-unique : CheckUnique
-check-unique r x y p q = one-answer (sym p) (sym q)
+check-unique r = unique (readNumber r)
 
 pub seal-unique : SealUnique
-seal-unique t name iv a p out x y = one-answer
+seal-unique t name iv a p out = unique (sealAnswer t name iv a p out)
 
 pub open-unique : OpenUnique
-open-unique t r a out count x y = one-answer
+open-unique t r a out count = unique (openAnswer t r a out count)
+
+-- ---- the numbers rise
+
+pub read-tests-rise : ReadTestsRise
+read-tests-rise r = refl
+
+pub seal-tests-rise : SealTestsRise
+seal-tests-rise ok row name iv a n room = refl
+
+pub tag-tests-rise : TagTestsRise
+tag-tests-rise key r a = refl
+
+pub open-tests-rise : OpenTestsRise
+open-tests-rise ok row r a room = refl

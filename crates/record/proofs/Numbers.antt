@@ -1,104 +1,99 @@
--- The numbers of sealing and opening, each by the tests that led there, and 0 with the result. Both modes have the same lengths.
+-- The numbers of sealing and opening, each by the tests that led there, and 0 with the result.
 -- Assumes nothing.
 use mathlib.Core.Path.{_≡_, refl}
 use mathlib.Core.Bool.{Bool, true, false, not, _||_}
 use mathlib.Core.List.{List, [], _∷_}
 use mathlib.Core.Option.{Option, some, none}
 use Prim.Native.Nat.{ℕ, _+_, _≤_}
+use native.Mathlib.Omega.{arith}
 use borrow.Author.Tests.{ltb-false, le-ltb}
 use lib.Dec.{eqb, ltb}
 use lib.ListN.{length}
-use Rattle.octets.specs.Lent.{when, isNot, lowest, over}
+use Rattle.octets.specs.Lent.{isNot, lowest, over}
 use Rattle.octets.proofs.Tests.{or-left, or-right}
 use Rattle.keytable.specs.Row.{nameMax, useOf, keyOf}
 use Rattle.keytable.specs.Calls.{missing, useIn}
-use Rattle.modes.specs.Mode.{Mode}
-use Rattle.modes.specs.Ccm.{ccm}
-use Rattle.modes.specs.Gcm.{gcm}
 use Rattle.modes.specs.Calls.{textMax}
-use Rattle.modes.proofs.BothWays.{Fitting}
-use Rattle.modes.proofs.CcmLaws.{ccm-fitting}
-use Rattle.modes.proofs.GcmLaws.{gcm-fitting}
-use Rattle.record.specs.Record.{permitted, modeOf, modeIn, countIn, nameSize, layoutOk}
+use Rattle.modes.proofs.Named.{each-mode}
+use Rattle.modes.proofs.Laws.{modes-permit}
+use Rattle.modes.specs.Modes.{namesMode, modeOf}
+use Rattle.record.specs.Record.{modeIn, countIn, nameSize, layoutOk}
 use Rattle.record.specs.Read.{passes}
 use Rattle.record.specs.Seal.{callersMax, sealNumber, readyBy}
 use Rattle.record.specs.Open.{authenticBy, plaintextBy, openNumber, openRow}
 
 -- ---- lengths by mode
 
-module _ (P : Mode → Type 0) (of-gcm : P gcm) (of-ccm : P ccm) where
-  pub each-mode : (u : ℕ) → P (modeOf u)
-  each-mode u = go (eqb u 2)
-    where
-      go : (b : Bool) → P (when b gcm ccm)
-      go true = of-gcm
-      go false = of-ccm
+pub iv-small : (u : ℕ) → modeOf u .ivSize ≤ 64
+iv-small = each-mode (λ m. m .ivSize ≤ 64) (omega arith) (omega arith)
 
-pub iv-size : (u : ℕ) → modeOf u .ivSize ≡ 12
-iv-size = each-mode (λ m. m .ivSize ≡ 12) refl refl
-
-pub tag-size : (u : ℕ) → modeOf u .tagSize ≡ 16
-tag-size = each-mode (λ m. m .tagSize ≡ 16) refl refl
+pub tag-small : (u : ℕ) → modeOf u .tagSize ≤ 64
+tag-small = each-mode (λ m. m .tagSize ≤ 64) (omega arith) (omega arith)
 
 pub key-size : (u : ℕ) → modeOf u .keySize ≡ 32
 key-size = each-mode (λ m. m .keySize ≡ 32) refl refl
 
--- ---- sealing
+-- ---- sealing, by the lengths of the row's use
 
-abbrev short-or-wrong : List ℕ → List ℕ → Bool
-short-or-wrong name iv = eqb (length name) 0 || isNot 12 iv
+abbrev short-or-wrong : ℕ → List ℕ → List ℕ → Bool
+short-or-wrong v name iv = eqb (length name) 0 || isNot v iv
 
-abbrev too-long : List ℕ → List ℕ → List ℕ → Bool
-too-long name a p = passes (length name) (length p) || ltb callersMax (length a)
+abbrev too-long : List ℕ → List ℕ → ℕ → Bool
+too-long name a n = passes (length name) n || ltb callersMax (length a)
 
-abbrev no-room : List ℕ → List ℕ → ℕ → Bool
-no-room name p room = ltb room (24 + length name + 12 + length p + 16)
+abbrev no-room : ℕ → ℕ → List ℕ → ℕ → ℕ → Bool
+no-room v t name n room = ltb room (24 + length name + v + n + t)
 
-module _ (ok : Bool) (row : Option (List ℕ)) (name iv a p : List ℕ) (room : ℕ) where
-  seal-numbers : sealNumber ok row name iv a p room
+or-false : (b : Bool) → (b || false) ≡ b
+or-false true = refl
+or-false false = refl
+
+module _ (ok : Bool) (row : Option (List ℕ)) (name iv a : List ℕ) (n room : ℕ) where
+  -- both modes permit every count
+  seal-numbers : sealNumber ok row name iv a n room
       ≡ lowest
       ((1, not ok)
-      ∷ (2, short-or-wrong name iv)
-      ∷ (4, too-long name a p)
-      ∷ (5, no-room name p room)
+      ∷ (2, short-or-wrong (modeOf (useIn row) .ivSize) name iv)
+      ∷ (4, too-long name a n)
+      ∷ (5, no-room (modeOf (useIn row) .ivSize) (modeOf (useIn row) .tagSize) name n room)
       ∷ (6, missing row)
-      ∷ (7, not (permitted (useIn row)))
+      ∷ (7, not (namesMode (useIn row)))
       ∷ [])
   unfolding sealNumber
-  seal-numbers = rw (iv-size (useIn row), tag-size (useIn row))
+  seal-numbers = rw (modes-permit (useIn row) n, or-false (short-or-wrong (modeOf (useIn row) .ivSize) name iv))
 
-  pub ready-one : ok ≡ false → readyBy ok row name iv a p room ≡ (1, none)
+  pub ready-one : ok ≡ false → readyBy ok row name iv a n room ≡ (1, none)
   unfolding readyBy
   ready-one e = rw (seal-numbers, e)
 
-  module _ (good : ok ≡ true) where
-    pub ready-two : short-or-wrong name iv ≡ true → readyBy ok row name iv a p room ≡ (2, none)
+  module _ (good : ok ≡ true) (v : ℕ) (ivs : v ≡ modeOf (useIn row) .ivSize) where
+    pub ready-two : short-or-wrong v name iv ≡ true → readyBy ok row name iv a n room ≡ (2, none)
     unfolding readyBy
-    ready-two e = rw (seal-numbers, good, e)
+    ready-two e = rw (seal-numbers, good, ← ivs, e)
 
-    module _ (sizes : short-or-wrong name iv ≡ false) where
-      pub ready-four : too-long name a p ≡ true → readyBy ok row name iv a p room ≡ (4, none)
+    module _ (sizes : short-or-wrong v name iv ≡ false) where
+      pub ready-four : too-long name a n ≡ true → readyBy ok row name iv a n room ≡ (4, none)
       unfolding readyBy
-      ready-four e = rw (seal-numbers, good, sizes, e)
+      ready-four e = rw (seal-numbers, good, ← ivs, sizes, e)
 
-      module _ (short : too-long name a p ≡ false) where
-        pub ready-five : no-room name p room ≡ true → readyBy ok row name iv a p room ≡ (5, none)
+      module _ (short : too-long name a n ≡ false) (t : ℕ) (tags : t ≡ modeOf (useIn row) .tagSize) where
+        pub ready-five : no-room v t name n room ≡ true → readyBy ok row name iv a n room ≡ (5, none)
         unfolding readyBy
-        ready-five e = rw (seal-numbers, good, sizes, short, e)
+        ready-five e = rw (seal-numbers, good, ← ivs, ← tags, sizes, short, e)
 
-        module _ (fits : no-room name p room ≡ false) where
-          pub ready-six : row ≡ none → readyBy ok row name iv a p room ≡ (6, none)
+        module _ (fits : no-room v t name n room ≡ false) where
+          pub ready-six : row ≡ none → readyBy ok row name iv a n room ≡ (6, none)
           unfolding readyBy
-          ready-six e = rw (seal-numbers, good, sizes, short, fits, e)
+          ready-six e = rw (seal-numbers, good, ← ivs, ← tags, sizes, short, fits, e)
 
           module _ (found : List ℕ) (has : row ≡ some found) where
-            pub ready-seven : permitted (useOf found) ≡ false → readyBy ok row name iv a p room ≡ (7, none)
+            pub ready-seven : namesMode (useIn row) ≡ false → readyBy ok row name iv a n room ≡ (7, none)
             unfolding readyBy
-            ready-seven e = rw (seal-numbers, good, sizes, short, fits, has, e)
+            ready-seven e = rw (seal-numbers, good, ← ivs, ← tags, sizes, short, fits, e, has)
 
-            pub ready-zero : permitted (useOf found) ≡ true → readyBy ok row name iv a p room ≡ (0, some found)
+            pub ready-zero : namesMode (useIn row) ≡ true → readyBy ok row name iv a n room ≡ (0, some found)
             unfolding readyBy
-            ready-zero e = rw (seal-numbers, good, sizes, short, fits, has, e)
+            ready-zero e = rw (seal-numbers, good, ← ivs, ← tags, sizes, short, fits, e, has)
 
 -- ---- opening
 
@@ -113,11 +108,11 @@ module _ (ok : Bool) (row : Option (List ℕ)) (r a out : List ℕ) (count : ℕ
     open-two e = rw (good, e)
 
     module _ (layout : layoutOk r ≡ true) where
-      pub open-three : permitted (modeIn r) ≡ false → openRow ok row r a out count ≡ ((3, out), count)
+      pub open-three : namesMode (modeIn r) ≡ false → openRow ok row r a out count ≡ ((3, out), count)
       unfolding openRow openNumber
       open-three e = rw (good, layout, e)
 
-      module _ (mode-ok : permitted (modeIn r) ≡ true) where
+      module _ (mode-ok : namesMode (modeIn r) ≡ true) where
         pub open-four : (passes (nameSize r) (countIn r) || ltb callersMax (length a)) ≡ true → openRow ok row r a out count ≡ ((4, out), count)
         unfolding openRow openNumber
         open-four e = rw (good, layout, mode-ok, e)
@@ -147,10 +142,6 @@ module _ (ok : Bool) (row : Option (List ℕ)) (r a out : List ℕ) (count : ℕ
                 open-zero e = rw (good, layout, mode-ok, short, room, has, same-use, e)
 
 -- ---- for both directions
-
--- both modes' directions fit each other
-pub fitting : (u : ℕ) → Fitting (modeOf u)
-fitting = each-mode Fitting gcm-fitting ccm-fitting
 
 -- no maximum is passed
 pub within-maxima : (k n : ℕ) (a : List ℕ) → (passes k n || ltb callersMax (length a)) ≡ false → (k ≤ nameMax) × (n ≤ textMax) × (length a ≤ callersMax)

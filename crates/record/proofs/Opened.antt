@@ -1,6 +1,6 @@
 -- What the number 0 of opening tells: every test was passed, and the output's front is the plaintext of the row's key.
 -- Assumes nothing.
-use mathlib.Core.Path.{_≡_, refl, sym, ap, ap₂, _∙_}
+use mathlib.Core.Path.{_≡_, refl, sym, ap, ap₂, subst, _∙_}
 use mathlib.Core.Bool.{Bool, true, false, false≢true}
 use mathlib.Core.List.{List}
 use mathlib.Core.Option.{Option, some, none}
@@ -9,17 +9,22 @@ use native.Mathlib.Omega.{arith}
 use borrow.Author.Tests.{eqb-true, eq-eqb, ltb-false, le-ltb, not-false}
 use lib.Dec.{eqb}
 use lib.ListN.{length}
+use Rattle.octets.specs.Bytes.{Bytes}
 use Rattle.octets.specs.Lent.{over}
 use Rattle.keytable.specs.Row.{nameMax, useOf, keyOf}
-use Rattle.keytable.specs.Table.{tableOk, rowFor}
+use Rattle.keytable.specs.Table.{tableOk, dataRow}
 use Rattle.modes.specs.Calls.{textMax}
-use Rattle.record.specs.Record.{permitted, modeIn, countIn, nameSize, layoutOk, nameIn, ivIn, textIn}
+use Rattle.modes.specs.Modes.{namesMode, modeOf}
+use Rattle.modes.specs.Laws.{Keyed}
+use Rattle.modes.proofs.Laws.{modes-fitting}
+use Rattle.record.specs.Record.{modeIn, modeFor, countIn, nameSize, layoutOk, nameIn, ivIn, textIn}
 use Rattle.record.specs.Seal.{callersMax}
 use Rattle.record.specs.Open.{authenticBy, plaintextBy, openTests, openNumber, openRow, openAnswer}
 use Rattle.record.specs.Demand3.{Opens}
 use Rattle.octets.proofs.Lent.{testAt, none-applies, over-injective}
-use Rattle.record.proofs.Parts.{length-textIn}
-use Rattle.record.proofs.Numbers.{fitting, within-maxima, maxima-kept}
+use Rattle.record.proofs.Parts.{length-ivIn, length-textIn, permits-textIn, bytes-ivIn}
+use Rattle.record.proofs.Numbers.{within-maxima, maxima-kept}
+use Rattle.record.proofs.Sealed.{row-keyed}
 
 -- ---- the tests
 
@@ -27,7 +32,7 @@ use Rattle.record.proofs.Numbers.{fitting, within-maxima, maxima-kept}
 pub record Openable (ok : Bool) (row r a : List ℕ) (room : ℕ) : Type 0 where
   pub accepted : ok ≡ true
   pub layout : layoutOk r ≡ true
-  pub mode : permitted (modeIn r) ≡ true
+  pub mode : namesMode (modeIn r) ≡ true
   pub short : nameSize r ≤ nameMax
   pub few : countIn r ≤ textMax
   pub little : length a ≤ callersMax
@@ -49,7 +54,7 @@ module _ (ok : Bool) (r a : List ℕ) (room : ℕ) where
       record {
         accepted = not-false ok (no 0);
         layout = not-false (layoutOk r) (no 1);
-        mode = not-false (permitted (modeIn r)) (no 2);
+        mode = not-false (namesMode (modeIn r)) (no 2);
         short = maxima .0;
         few = maxima .1;
         little = maxima .2;
@@ -85,60 +90,71 @@ open-refused ok row r a out count e = rw e
 
 -- ---- the plaintext is as long as the ciphertext
 
-pub length-plaintextBy : (key r : List ℕ) → layoutOk r ≡ true → length (plaintextBy key r) ≡ countIn r
+pub length-plaintextBy : (key r : List ℕ) → Keyed (modeFor r) key (ivIn r) → layoutOk r ≡ true → length (plaintextBy key r) ≡ countIn r
 unfolding plaintextBy
-length-plaintextBy key r layout =
-    sym (fitting (modeIn r) .ciphertext-length key (ivIn r) (plaintextBy key r))
-    ∙ ap length (fitting (modeIn r) .seals key (ivIn r) (textIn r))
-    ∙ length-textIn r layout
+length-plaintextBy key r keyed layout =
+    modes-fitting (modeIn r) .plaintext-length key (ivIn r) (textIn r) keyed (permits-textIn r layout) ∙ length-textIn r layout
+
+-- the row's key and the record's IV
+pub open-keyed : (t r a row : List ℕ) (room : ℕ) → Bytes t → Bytes r → dataRow t (nameIn r) ≡ some row → Openable (tableOk t) row r a room
+    → Keyed (modeFor r) (keyOf row) (ivIn r)
+open-keyed t r a row room table-bytes bytes has h =
+    subst (λ (u : ℕ). Keyed (modeOf u) (keyOf row) (ivIn r)) (h .use-is)
+    (row-keyed t (nameIn r) row (ivIn r) table-bytes (bytes-ivIn r bytes) (h .accepted) has
+    (length-ivIn r (h .layout) ∙ ap (λ (u : ℕ). modeOf u .ivSize) (sym (h .use-is))))
 
 -- ---- the answer 0
 
 -- opening gives p: over its definitions
 pub record OpenedAs (t r a out p : List ℕ) : Type 0 where
   pub row : List ℕ
-  pub has-row : rowFor t (nameIn r) ≡ some row
+  pub has-row : dataRow t (nameIn r) ≡ some row
   pub able : Openable (tableOk t) row r a (length out)
   pub is : plaintextBy (keyOf row) r ≡ p
 
 module _ (t r a out : List ℕ) (count : ℕ) where
-  pub open-done : (row : List ℕ) → rowFor t (nameIn r) ≡ some row → Openable (tableOk t) row r a (length out)
+  pub open-done : (row : List ℕ) → dataRow t (nameIn r) ≡ some row → Openable (tableOk t) row r a (length out)
       → openAnswer t r a out count ≡ ((0, over (plaintextBy (keyOf row) r) out), countIn r)
   unfolding openRow
   open-done row is h = rw (is, open-passed (tableOk t) r a (length out) row h)
 
-  pub open-number : openAnswer t r a out count .0 .0 ≡ openNumber (tableOk t) (rowFor t (nameIn r)) r a (length out)
+  pub open-number : openAnswer t r a out count .0 .0 ≡ openNumber (tableOk t) (dataRow t (nameIn r)) r a (length out)
   unfolding openRow
   open-number = refl
 
-  pub opens-as : (p : List ℕ) → Opens t r a out count p → OpenedAs t r a out p
-  opens-as p h = record { row = row; has-row = found .1; able = able; is = is }
-    where
-      number : openNumber (tableOk t) (rowFor t (nameIn r)) r a (length out) ≡ 0
-      number = sym open-number ∙ ap (λ (x : (ℕ × List ℕ) × ℕ). x .0 .0) (h .answers)
+  -- 0 came of a row by which every test is passed
+  pub opened-row : openAnswer t r a out count .0 .0 ≡ 0 → (row : List ℕ) × (dataRow t (nameIn r) ≡ some row) × Openable (tableOk t) row r a (length out)
+  opened-row e =
+      let number = sym open-number ∙ e in
+      let (row, has) = open-row (tableOk t) r a (length out) (dataRow t (nameIn r)) number in
+      (row, has, openable (tableOk t) r a (length out) row (rw has at number))
 
-      found : (row : List ℕ) × (rowFor t (nameIn r) ≡ some row)
-      found = open-row (tableOk t) r a (length out) (rowFor t (nameIn r)) number
+  -- where p is what is opened: the count is its length, and there is room for it
+  pub opens-size : (p : List ℕ) → Opens t r a out count p → (countIn r ≡ length p) × (length p ≤ length out)
+  opens-size p h =
+      let (row, has, able) = opened-row (ap (λ (x : (ℕ × List ℕ) × ℕ). x .0 .0) (h .answers)) in
+      let size : countIn r ≡ length p = ap (λ (x : (ℕ × List ℕ) × ℕ). x .1) (sym (open-done row has able) ∙ h .answers) in
+      (size, omega (arith, able .fits))
 
-      row : List ℕ
-      row = found .0
+  module _ (table-bytes : Bytes t) (bytes : Bytes r) where
+    pub opens-as : (p : List ℕ) → Opens t r a out count p → OpenedAs t r a out p
+    opens-as p h =
+        let (row, has, able) = opened-row (ap (λ (x : (ℕ × List ℕ) × ℕ). x .0 .0) (h .answers)) in
+        let (size, fits) = opens-size p h in
+        record {
+          row = row;
+          has-row = has;
+          able = able;
+          is =
+              over-injective (plaintextBy (keyOf row) r) p out
+              (length-plaintextBy (keyOf row) r (open-keyed t r a row (length out) table-bytes bytes has able) (able .layout) ∙ size) fits
+              (ap (λ (x : (ℕ × List ℕ) × ℕ). x .0 .1) (sym (open-done row has able) ∙ h .answers));
+        }
 
-      able : Openable (tableOk t) row r a (length out)
-      able = openable (tableOk t) r a (length out) row (rw (found .1) at number)
-
-      same : _≡_ {A = (ℕ × List ℕ) × ℕ} ((0, over (plaintextBy (keyOf row) r) out), countIn r) ((0, over p out), length p)
-      same = sym (open-done row (found .1) able) ∙ h .answers
-
-      size : countIn r ≡ length p
-      size = ap (λ (x : (ℕ × List ℕ) × ℕ). x .1) same
-
-      is : plaintextBy (keyOf row) r ≡ p
-      is =
-          over-injective (plaintextBy (keyOf row) r) p out (length-plaintextBy (keyOf row) r (able .layout) ∙ size) (omega (arith, size, able .fits))
-          (ap (λ (x : (ℕ × List ℕ) × ℕ). x .0 .1) same)
-
-  pub as-opens : (p : List ℕ) → OpenedAs t r a out p → Opens t r a out count p
-  as-opens p h = record { answers = open-done (h .row) (h .has-row) (h .able) ∙ ap₂ (λ (l : List ℕ) (n : ℕ). ((0, over l out), n)) (h .is) size }
-    where
-      size : countIn r ≡ length p
-      size = sym (length-plaintextBy (keyOf (h .row)) r (h .able .layout)) ∙ ap length (h .is)
+    pub as-opens : (p : List ℕ) → OpenedAs t r a out p → Opens t r a out count p
+    as-opens p h = record { answers = open-done (h .row) (h .has-row) (h .able) ∙ ap₂ (λ (l : List ℕ) (n : ℕ). ((0, over l out), n)) (h .is) size }
+      where
+        size : countIn r ≡ length p
+        size =
+            sym (length-plaintextBy (keyOf (h .row)) r (open-keyed t r a (h .row) (length out) table-bytes bytes (h .has-row) (h .able)) (h .able .layout))
+            ∙ ap length (h .is)

@@ -1,15 +1,20 @@
 -- A record that keeps to the layout: what each test tells, and that it is its front, its IV, its ciphertext and its tag, end to end.
 -- Assumes nothing.
-use mathlib.Core.Path.{_≡_}
-use mathlib.Core.Bool.{true}
+use mathlib.Core.Path.{_≡_, refl, ap, _∙_}
+use mathlib.Core.Bool.{Bool, true, false, _&&_}
 use mathlib.Core.List.{List, _++_}
-use Prim.Native.Nat.{ℕ, _≤_}
+use Prim.Native.Nat.{ℕ, _+_, _≤_}
 use native.Mathlib.Omega.{arith}
 use borrow.Author.Tests.{eqb-true, eq-eqb, leb-true, le-leb}
+use lib.Dec.{eqb, leb}
 use lib.ListN.{length, getD}
+use Rattle.octets.specs.Bytes.{Bytes}
 use Rattle.octets.specs.BigEndian.{numberAt}
+use Rattle.octets.proofs.Bytes.{bytes-take, bytes-drop}
 use Rattle.octets.proofs.Tests.{every-at, length-part, parts-whole}
-use Rattle.record.specs.Record.{recordFormat, nameAt, ivAt, textAt, tagAt, endAt, countIn, nameSize, modeFor, layoutTests, layoutOk, frontIn, nameIn, ivIn, textIn, tagIn}
+use Rattle.modes.specs.Modes.{modeOf}
+use Rattle.modes.proofs.Laws.{modes-permit}
+use Rattle.record.specs.Record.{recordFormat, nameAt, ivAt, textAt, tagAt, modeIn, countIn, nameSize, modeFor, endIn, layoutTests, layoutOk, frontIn, nameIn, ivIn, textIn, tagIn}
 
 -- each word of the header and the end, as the layout has them
 pub record Kept (r : List ℕ) : Type 0 where
@@ -21,7 +26,8 @@ pub record Kept (r : List ℕ) : Type 0 where
   pub iv-long : numberAt 2 r 14 ≡ modeFor r .ivSize
   pub text-at : numberAt 4 r 16 ≡ textAt (modeFor r) (nameSize r)
   pub tag-at : numberAt 4 r 20 ≡ tagAt (modeFor r) (nameSize r) (countIn r)
-  pub end-at : length r ≡ endAt (modeFor r) (nameSize r) (countIn r)
+  pub end-at : length r ≡ endIn r
+  pub permitted : modeFor r .permits (countIn r) ≡ true
 
 pub layout-kept : (r : List ℕ) → layoutOk r ≡ true → Kept r
 unfolding layoutOk
@@ -36,6 +42,7 @@ layout-kept r e =
       text-at = eqb-true _ _ (test 6);
       tag-at = eqb-true _ _ (test 7);
       end-at = eqb-true _ _ (test 8);
+      permitted = test 9;
     }
   where
     test : (i : ℕ) → getD (layoutTests r) i true ≡ true
@@ -53,11 +60,25 @@ kept-layout r h =
       eq-eqb (numberAt 2 r 14) (modeFor r .ivSize) (h .iv-long),
       eq-eqb (numberAt 4 r 16) (textAt (modeFor r) (nameSize r)) (h .text-at),
       eq-eqb (numberAt 4 r 20) (tagAt (modeFor r) (nameSize r) (countIn r)) (h .tag-at),
-      eq-eqb (length r) (endAt (modeFor r) (nameSize r) (countIn r)) (h .end-at),
+      eq-eqb (length r) (endIn r) (h .end-at),
+      h .permitted,
     )
 
+-- the tests one after another, of the numbers that were read; both modes permit every count
+and-true : (b : Bool) → (b && true) ≡ b
+and-true true = refl
+and-true false = refl
+
+pub layout-tested : (r : List ℕ) (u v n k tag-place g a b c d e f h : ℕ)
+    → u ≡ modeIn r → v ≡ modeOf u .ivSize → n ≡ countIn r → k ≡ nameSize r → tag-place ≡ 24 + k + v + n → g ≡ modeOf u .tagSize
+    → a ≡ numberAt 2 r 0 → b ≡ getD r 3 0 → c ≡ numberAt 2 r 8 → d ≡ numberAt 2 r 12 → e ≡ numberAt 2 r 14 → f ≡ numberAt 4 r 16 → h ≡ numberAt 4 r 20
+    → (eqb a 1 && eqb b 0 && eqb c 24 && leb 1 k && eqb d (24 + k) && eqb e v && eqb f (24 + k + v) && eqb h tag-place && eqb (length r) (tag-place + g)) ≡ layoutOk r
+unfolding layoutOk
+layout-tested r u v n k tag-place g a b c d e f h eu ev en ek et eg ea eb ec ed ee ef eh =
+    rw (et, ev, eg, eu, en, ek, ea, eb, ec, ed, ee, ef, eh, modes-permit (modeIn r) (countIn r), and-true)
+
 module _ (r : List ℕ) (layout : layoutOk r ≡ true) where
-  ends : length r ≡ endAt (modeFor r) (nameSize r) (countIn r)
+  ends : length r ≡ endIn r
   ends = layout-kept r layout .end-at
 
   pub parts-record : frontIn r ++ (ivIn r ++ (textIn r ++ tagIn r)) ≡ r
@@ -83,3 +104,16 @@ module _ (r : List ℕ) (layout : layoutOk r ≡ true) where
   pub length-tagIn : length (tagIn r) ≡ modeFor r .tagSize
   unfolding tagIn
   length-tagIn = length-part r (tagAt (modeFor r) (nameSize r) (countIn r)) (modeFor r .tagSize) (omega (arith, ends))
+
+  pub permits-textIn : modeFor r .permits (length (textIn r)) ≡ true
+  permits-textIn = ap (modeFor r .permits) length-textIn ∙ layout-kept r layout .permitted
+
+-- the parts of bytes are bytes
+module _ (r : List ℕ) (bytes : Bytes r) where
+  pub bytes-ivIn : Bytes (ivIn r)
+  unfolding ivIn
+  bytes-ivIn = bytes-take (modeFor r .ivSize) (bytes-drop (ivAt (nameSize r)) bytes)
+
+  pub bytes-textIn : Bytes (textIn r)
+  unfolding textIn
+  bytes-textIn = bytes-take (countIn r) (bytes-drop (textAt (modeFor r) (nameSize r)) bytes)

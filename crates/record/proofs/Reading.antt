@@ -13,7 +13,8 @@ use Rattle.octets.specs.Lent.{lowest}
 use Rattle.octets.proofs.Tests.{or-left, or-right}
 use Rattle.keytable.specs.Row.{nameMax}
 use Rattle.modes.specs.Calls.{textMax}
-use Rattle.record.specs.Record.{permitted, modeIn, countIn, nameSize, layoutOk}
+use Rattle.modes.specs.Modes.{namesMode}
+use Rattle.record.specs.Record.{modeIn, countIn, nameSize, layoutOk}
 use Rattle.record.specs.Read.{passes, readNumber, headerSays, readAnswer}
 use Rattle.record.specs.Open.{openRow}
 use Rattle.record.proofs.Numbers.{open-two, open-three, open-four}
@@ -24,15 +25,15 @@ module _ (r : List ℕ) where
   unfolding readAnswer readNumber
   read-two e = rw e
 
-  pub read-three : layoutOk r ≡ true → permitted (modeIn r) ≡ false → readAnswer r ≡ (3, [])
+  pub read-three : layoutOk r ≡ true → namesMode (modeIn r) ≡ false → readAnswer r ≡ (3, [])
   unfolding readAnswer readNumber
   read-three e f = rw (e, f)
 
-  pub read-four : layoutOk r ≡ true → permitted (modeIn r) ≡ true → passes (nameSize r) (countIn r) ≡ true → readAnswer r ≡ (4, [])
+  pub read-four : layoutOk r ≡ true → namesMode (modeIn r) ≡ true → passes (nameSize r) (countIn r) ≡ true → readAnswer r ≡ (4, [])
   unfolding readAnswer readNumber
   read-four e f g = rw (e, f, g)
 
-  pub read-zero : layoutOk r ≡ true → permitted (modeIn r) ≡ true → passes (nameSize r) (countIn r) ≡ false
+  pub read-zero : layoutOk r ≡ true → namesMode (modeIn r) ≡ true → passes (nameSize r) (countIn r) ≡ false
       → readAnswer r ≡ (0, modeIn r ∷ nameSize r ∷ countIn r ∷ [])
   unfolding readAnswer readNumber
   read-zero e f g = rw (e, f, g)
@@ -44,7 +45,7 @@ module _ (r : List ℕ) where
 -- every test passed: the fields are the record's own
 pub record Accepted (r : List ℕ) (u k n : ℕ) : Type 0 where
   pub layout : layoutOk r ≡ true
-  pub mode-ok : permitted (modeIn r) ≡ true
+  pub mode-ok : namesMode (modeIn r) ≡ true
   pub short : passes (nameSize r) (countIn r) ≡ false
   pub mode-is : u ≡ modeIn r
   pub size-is : k ≡ nameSize r
@@ -69,8 +70,8 @@ accepted r u k n e =
       count-is = ap (λ (x : ℕ × List ℕ). getD (x .1) 2 0) whole;
     }
   where
-    passed : (layoutOk r ≡ true) × (permitted (modeIn r) ≡ true) × (passes (nameSize r) (countIn r) ≡ false)
-    passed = pick-test (layoutOk r) (permitted (modeIn r)) (passes (nameSize r) (countIn r)) (sym (ap (λ (x : ℕ × List ℕ). x .0) e))
+    passed : (layoutOk r ≡ true) × (namesMode (modeIn r) ≡ true) × (passes (nameSize r) (countIn r) ≡ false)
+    passed = pick-test (layoutOk r) (namesMode (modeIn r)) (passes (nameSize r) (countIn r)) (sym (ap (λ (x : ℕ × List ℕ). x .0) e))
 
     whole : _≡_ {A = ℕ × List ℕ} (0, u ∷ k ∷ n ∷ []) (0, modeIn r ∷ nameSize r ∷ countIn r ∷ [])
     whole = e ∙ read-zero r (passed .0) (passed .1) (passed .2)
@@ -88,7 +89,7 @@ module _ (r : List ℕ) where
 pub open-unread : (row : Option (List ℕ)) (r a out : List ℕ) (count : ℕ) (h : Header) → headerSays h ≡ readAnswer r → (headerSays h .0 ≡ 0 → ⊥)
     → openRow true row r a out count ≡ ((headerSays h .0, out), count)
 unfolding readNumber
-open-unread row r a out count h e never = go (layoutOk r) (permitted (modeIn r)) (passes (nameSize r) (countIn r)) refl refl refl
+open-unread row r a out count h e never = go (layoutOk r) (namesMode (modeIn r)) (passes (nameSize r) (countIn r)) refl refl refl
   where
     number : (n : ℕ) → readNumber r ≡ n → headerSays h .0 ≡ n
     number n is = read-number r h e ∙ is
@@ -96,7 +97,7 @@ open-unread row r a out count h e never = go (layoutOk r) (permitted (modeIn r))
     told : (n : ℕ) → readNumber r ≡ n → openRow true row r a out count ≡ ((n, out), count) → openRow true row r a out count ≡ ((headerSays h .0, out), count)
     told n is o = o ∙ ap (λ (k : ℕ). ((k, out), count)) (sym (number n is))
 
-    go : (x y z : Bool) → layoutOk r ≡ x → permitted (modeIn r) ≡ y → passes (nameSize r) (countIn r) ≡ z → openRow true row r a out count ≡ ((headerSays h .0, out), count)
+    go : (x y z : Bool) → layoutOk r ≡ x → namesMode (modeIn r) ≡ y → passes (nameSize r) (countIn r) ≡ z → openRow true row r a out count ≡ ((headerSays h .0, out), count)
     go false y z ex ey ez = told 2 (rw ex) (open-two true row r a out count refl ex)
     go true false z ex ey ez = told 3 (rw (ex, ey)) (open-three true row r a out count refl ex ey)
     go true true true ex ey ez = told 4 (rw (ex, ey, ez)) (open-four true row r a out count refl ex ey (rw ez))

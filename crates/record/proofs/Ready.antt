@@ -12,46 +12,50 @@ use Rattle.octets.proofs.Lent.{answer-refused}
 use Rattle.keytable.specs.Calls.{missing}
 use Rattle.record.specs.Seal.{recordBy, sealNumber, readyBy, sealRow}
 use Rattle.octets.proofs.Lent.{answer-done}
-use Rattle.record.proofs.Sealed.{Sealable, seal-row, sealable}
+use Rattle.record.specs.Laws.{InRange}
+use Rattle.record.proofs.Sealed.{in-range}
 
-module _ (ok : Bool) (row : Option (List ℕ)) (name iv a p : List ℕ) (room : ℕ) where
-  ready-told : (n : ℕ) (o : Option (List ℕ)) → readyBy ok row name iv a p room ≡ (n, o) → (sealNumber ok row name iv a p room ≡ n) × (n ≡ 0 → row ≡ o)
+module _ (ok : Bool) (row : Option (List ℕ)) (name iv a : List ℕ) (size room : ℕ) where
+  ready-told : (n : ℕ) (o : Option (List ℕ)) → readyBy ok row name iv a size room ≡ (n, o) → (sealNumber ok row name iv a size room ≡ n) × (n ≡ 0 → row ≡ o)
   unfolding readyBy
   ready-told n o e = (number, λ z. rw (number, z) at (ap (λ (x : ℕ × Option (List ℕ)). x .1) e))
     where
-      number : sealNumber ok row name iv a p room ≡ n
+      number : sealNumber ok row name iv a size room ≡ n
       number = ap (λ (x : ℕ × Option (List ℕ)). x .0) e
 
   -- refused: the number is not 0
-  pub ready-refused : (n : ℕ) → readyBy ok row name iv a p room ≡ (n, none) → (sealNumber ok row name iv a p room ≡ n) × (n ≡ 0 → ⊥)
+  pub ready-refused : (n : ℕ) → readyBy ok row name iv a size room ≡ (n, none) → (sealNumber ok row name iv a size room ≡ n) × (n ≡ 0 → ⊥)
   ready-refused n e =
       let (number, is) = ready-told n none e in (
         number,
-        λ z. let (found, has) = seal-row ok name iv a p room row (number ∙ z) in false≢true (sym (ap missing has) ∙ ap missing (is z)),
+        λ z. let found = in-range ok name iv a size room row (number ∙ z) in false≢true (sym (ap missing (found .has-row)) ∙ ap missing (is z)),
       )
 
   -- found: the row, and no test applies
-  module _ (found : List ℕ) (e : readyBy ok row name iv a p room ≡ (0, some found)) where
-    pub ready-number : sealNumber ok row name iv a p room ≡ 0
+  module _ (found : List ℕ) (e : readyBy ok row name iv a size room ≡ (0, some found)) where
+    pub ready-number : sealNumber ok row name iv a size room ≡ 0
     ready-number = ready-told 0 (some found) e .0
 
     pub ready-row : row ≡ some found
     ready-row = ready-told 0 (some found) e .1 refl
 
-    pub ready-able : Sealable ok found name iv a p room
-    ready-able = sealable ok name iv a p room found (rw ready-row at ready-number)
+    pub ready-able : InRange ok (some found) name iv a size room
+    ready-able = in-range ok name iv a size room (some found) (rw ready-row at ready-number)
+
+    pub ready-same : ready-able .row ≡ found
+    ready-same = cc (ready-able .has-row)
 
 -- ---- sealing, by what its tests found
 
 module _ (ok : Bool) (row : Option (List ℕ)) (name iv a p out : List ℕ) where
-  pub seal-refused : (n : ℕ) → readyBy ok row name iv a p (length out) ≡ (n, none) → sealRow ok row name iv a p out ≡ (n, out)
+  pub seal-refused : (n : ℕ) → readyBy ok row name iv a (length p) (length out) ≡ (n, none) → sealRow ok row name iv a p out ≡ (n, out)
   unfolding sealRow
   seal-refused n e =
-      let (number, not-zero) = ready-refused ok row name iv a p (length out) n e in
+      let (number, not-zero) = ready-refused ok row name iv a (length p) (length out) n e in
       rw number (answer-refused n (recordBy row name iv a p) out (ne-eqb n 0 not-zero))
 
-  pub seal-written : (found left : List ℕ) → readyBy ok row name iv a p (length out) ≡ (0, some found) → left ≡ over (recordBy row name iv a p) out
+  pub seal-written : (found left : List ℕ) → readyBy ok row name iv a (length p) (length out) ≡ (0, some found) → left ≡ over (recordBy row name iv a p) out
       → sealRow ok row name iv a p out ≡ (0, left)
   unfolding sealRow
   seal-written found left e is =
-      answer-done _ (recordBy row name iv a p) out (ready-number ok row name iv a p (length out) found e) ∙ ap (λ (l : List ℕ). (0, l)) (sym is)
+      answer-done _ (recordBy row name iv a p) out (ready-number ok row name iv a (length p) (length out) found e) ∙ ap (λ (l : List ℕ). (0, l)) (sym is)

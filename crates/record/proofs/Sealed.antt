@@ -1,90 +1,116 @@
 -- What the number 0 of sealing tells: every test was passed, and the output's front is the record of the row's use and key.
 -- Assumes nothing.
 use mathlib.Core.Path.{_≡_, refl, sym, ap, ap₂, _∙_}
-use mathlib.Core.Bool.{Bool, true, false, false≢true}
-use mathlib.Core.List.{List, _++_}
+use mathlib.Core.Bool.{Bool, true, false, not, _||_, false≢true}
+use mathlib.Core.List.{List, _++_, append-assoc}
 use mathlib.Core.Option.{Option, some, none}
-use Prim.Native.Nat.{ℕ, _≤_}
+use Prim.Native.Nat.{ℕ, _+_, _≤_}
 use native.Mathlib.Omega.{arith}
 use borrow.Author.Tests.{eqb-false, ne-eqb, ltb-false, le-ltb, not-false}
 use lib.Dec.{eqb}
-use lib.ListN.{length, replicate, length-replicate}
+use lib.ListN.{length, take, drop, replicate, length-replicate, length-append}
+use Rattle.octets.specs.Bytes.{Bytes}
 use Rattle.octets.specs.Lent.{isNot, over}
-use Rattle.octets.proofs.Lent.{isNot-false, isNot-right, over-whole}
-use Rattle.octets.proofs.Tests.{or-left, or-right}
+use Rattle.octets.proofs.Lent.{testAt, none-applies, answer-done, isNot-false, isNot-right, over-whole}
+use Rattle.octets.specs.Tests.{partOf}
+use Rattle.octets.proofs.Tests.{or-left, or-right, part-at}
+use Rattle.octets.proofs.Bytes.{bytes-take, bytes-drop}
 use Rattle.keytable.specs.Row.{nameMax, useOf, keyOf}
-use Rattle.keytable.specs.Table.{tableOk, rowFor}
+use Rattle.keytable.specs.Table.{tableOk, dataRow}
+use Rattle.keytable.proofs.Laws.{rowFor-good}
+use Rattle.keytable.proofs.RowFound.{row-key-bytes}
 use Rattle.modes.specs.Calls.{textMax}
-use Rattle.record.specs.Record.{permitted, modeOf, endAt, front}
+use Rattle.modes.specs.Modes.{namesMode, modeOf}
+use Rattle.modes.specs.Laws.{Keyed}
+use Rattle.modes.proofs.Laws.{modes-fitting}
+use Rattle.record.specs.Record.{endAt, front}
 use Rattle.record.specs.Seal.{callersMax, recordOf, sealedSize, sealTests, sealNumber, sealRow, sealAnswer}
 use Rattle.record.specs.Demand3.{Seals}
-use Rattle.record.proofs.Numbers.{fitting, within-maxima, maxima-kept}
-use Rattle.octets.proofs.Lent.{testAt, none-applies, answer-done, answer-zero}
+use Rattle.record.specs.Laws.{InRange, SealsInRange, SealsOnlyInRange}
+use Rattle.record.proofs.Numbers.{key-size, within-maxima, maxima-kept}
+use Rattle.record.proofs.Written.{length-front}
+use Rattle.record.proofs.Filled.{over-append}
 use Rattle.record.proofs.Laid.{laid, Laid, length-laid, laid-out}
 
 -- ---- the tests
 
--- every test of sealing by a row is passed
-pub record Sealable (ok : Bool) (row name iv a p : List ℕ) (room : ℕ) : Type 0 where
-  pub accepted : ok ≡ true
-  pub named : 1 ≤ length name
-  pub iv-long : length iv ≡ modeOf (useOf row) .ivSize
-  pub short : length name ≤ nameMax
-  pub few : length p ≤ textMax
-  pub little : length a ≤ callersMax
-  pub fits : sealedSize (some row) name p ≤ room
-  pub mode : permitted (useOf row) ≡ true
-
-module _ (ok : Bool) (name iv a p : List ℕ) (room : ℕ) where
-  no-test : (row : Option (List ℕ)) (i : ℕ) → sealNumber ok row name iv a p room ≡ 0 → testAt (sealTests ok row name iv a p room) i ≡ false
+module _ (ok : Bool) (name iv a : List ℕ) (n room : ℕ) where
+  no-test : (row : Option (List ℕ)) (i : ℕ) → sealNumber ok row name iv a n room ≡ 0 → testAt (sealTests ok row name iv a n room) i ≡ false
   unfolding sealNumber
-  no-test row i e = none-applies (sealTests ok row name iv a p room) i refl e
+  no-test row i e = none-applies (sealTests ok row name iv a n room) i refl e
 
-  pub seal-row : (o : Option (List ℕ)) → sealNumber ok o name iv a p room ≡ 0 → (row : List ℕ) × (o ≡ some row)
-  seal-row none e = absurd (false≢true (sym (no-test none 4 e)))
-  seal-row (some row) e = (row, refl)
-
-  pub sealable : (row : List ℕ) → sealNumber ok (some row) name iv a p room ≡ 0 → Sealable ok row name iv a p room
-  sealable row e =
+  pub in-range : (o : Option (List ℕ)) → sealNumber ok o name iv a n room ≡ 0 → InRange ok o name iv a n room
+  in-range none e = absurd (false≢true (sym (no-test none 4 e)))
+  in-range (some row) e =
       record {
         accepted = not-false ok (no 0);
-        named = omega (arith, eqb-false (length name) 0 (or-left (eqb (length name) 0) (isNot (modeOf (useOf row) .ivSize) iv) (no 1)));
-        iv-long = isNot-false (modeOf (useOf row) .ivSize) iv (or-right (eqb (length name) 0) (isNot (modeOf (useOf row) .ivSize) iv) (no 1));
-        short = maxima .0;
-        few = maxima .1;
-        little = maxima .2;
-        fits = ltb-false room (sealedSize (some row) name p) (no 3);
-        mode = not-false (permitted (useOf row)) (no 5);
+        row = row;
+        has-row = refl;
+        mode = not-false (namesMode u) (no 5);
+        named = omega (arith, eqb-false (length name) 0 (or-left (eqb (length name) 0) (isNot (modeOf u .ivSize) iv) sizes));
+        iv-size = isNot-false (modeOf u .ivSize) iv (or-right (eqb (length name) 0) (isNot (modeOf u .ivSize) iv) sizes);
+        permitted = not-false (modeOf u .permits n) (or-right (eqb (length name) 0 || isNot (modeOf u .ivSize) iv) (not (modeOf u .permits n)) (no 1));
+        name-fits = maxima .0;
+        text-fits = maxima .1;
+        data-fits = maxima .2;
+        room-fits = ltb-false room (sealedSize (some row) name n) (no 3);
       }
     where
-      no : (i : ℕ) → testAt (sealTests ok (some row) name iv a p room) i ≡ false
+      u : ℕ
+      u = useOf row
+
+      no : (i : ℕ) → testAt (sealTests ok (some row) name iv a n room) i ≡ false
       no i = no-test (some row) i e
 
-      maxima : (length name ≤ nameMax) × (length p ≤ textMax) × (length a ≤ callersMax)
-      maxima = within-maxima (length name) (length p) a (no 2)
+      sizes : (eqb (length name) 0 || isNot (modeOf u .ivSize) iv) ≡ false
+      sizes = or-left (eqb (length name) 0 || isNot (modeOf u .ivSize) iv) (not (modeOf u .permits n)) (no 1)
 
-  pub seal-passed : (row : List ℕ) → Sealable ok row name iv a p room → sealNumber ok (some row) name iv a p room ≡ 0
+      maxima : (length name ≤ nameMax) × (n ≤ textMax) × (length a ≤ callersMax)
+      maxima = within-maxima (length name) n a (no 2)
+
+  pub seal-passed : (o : Option (List ℕ)) → InRange ok o name iv a n room → sealNumber ok o name iv a n room ≡ 0
   unfolding sealNumber
-  seal-passed row h =
+  seal-passed o h =
       rw (
         h .accepted,
+        h .has-row,
         ne-eqb (length name) 0 (λ e. omega (arith, h .named, e)),
-        isNot-right (modeOf (useOf row) .ivSize) iv (h .iv-long),
-        maxima-kept (length name) (length p) a (h .short) (h .few) (h .little),
-        le-ltb room (sealedSize (some row) name p) (h .fits),
+        isNot-right (modeOf (useOf (h .row)) .ivSize) iv (h .iv-size),
+        h .permitted,
+        maxima-kept (length name) n a (h .name-fits) (h .text-fits) (h .data-fits),
+        le-ltb room (sealedSize (some (h .row)) name n) (h .room-fits),
         h .mode,
       )
 
--- the answer 0
-module _ (ok : Bool) (row name iv a p out : List ℕ) where
-  pub seal-told : (after : List ℕ) → sealRow ok (some row) name iv a p out ≡ (0, after)
-      → (sealNumber ok (some row) name iv a p (length out) ≡ 0) × (over (recordOf (useOf row) (keyOf row) name iv a p) out ≡ after)
-  unfolding sealRow
-  seal-told after e = answer-zero _ _ out after e
+-- with other room
+abbrev pub with-room : {ok : Bool} {o : Option (List ℕ)} {name iv a : List ℕ} {n room : ℕ} (h : InRange ok o name iv a n room) (room′ : ℕ)
+    → sealedSize (some (h .row)) name n ≤ room′ → InRange ok o name iv a n room′
+with-room h room′ fits =
+    record {
+      accepted = h .accepted;
+      row = h .row;
+      has-row = h .has-row;
+      mode = h .mode;
+      named = h .named;
+      iv-size = h .iv-size;
+      permitted = h .permitted;
+      name-fits = h .name-fits;
+      text-fits = h .text-fits;
+      data-fits = h .data-fits;
+      room-fits = fits;
+    }
 
-  pub seal-done : Sealable ok row name iv a p (length out) → sealRow ok (some row) name iv a p out ≡ (0, over (recordOf (useOf row) (keyOf row) name iv a p) out)
-  unfolding sealRow
-  seal-done h = answer-done _ _ out (seal-passed ok name iv a p (length out) row h)
+-- ---- the answer 0
+
+pub range-sealed : SealsInRange
+unfolding sealRow
+range-sealed t name iv a p out h =
+    ap (λ (o : Option (List ℕ)). sealRow (tableOk t) o name iv a p out) (h .has-row)
+    ∙ answer-done _ _ out (rw (h .has-row) at (seal-passed (tableOk t) name iv a (length p) (length out) (dataRow t name) h))
+
+pub zero-told : SealsOnlyInRange
+unfolding sealRow
+zero-told t name iv a p out e = in-range (tableOk t) name iv a (length p) (length out) (dataRow t name) e
 
 -- ---- the record
 
@@ -95,36 +121,68 @@ textBy u key iv p = modeOf u .ciphertext key iv p
 abbrev pub tagBy : ℕ → List ℕ → List ℕ → List ℕ → List ℕ → List ℕ → List ℕ
 tagBy u key name iv a p = modeOf u .tag key iv (front u name (length p) ++ a) p
 
-module _ (u : ℕ) (key name iv a p : List ℕ) where
-  pub recordOf-laid : laid u name (length p) iv (textBy u key iv p) (tagBy u key name iv a p) ≡ recordOf u key name iv a p
-  unfolding recordOf
-  recordOf-laid = refl
+pub recordOf-laid : (u : ℕ) (key name iv a p : List ℕ) → laid u name (length p) iv (textBy u key iv p) (tagBy u key name iv a p) ≡ recordOf u key name iv a p
+unfolding recordOf
+recordOf-laid u key name iv a p = refl
 
+module _ (u : ℕ) (key name iv a p : List ℕ) (keyed : Keyed (modeOf u) key iv) (permitted : modeOf u .permits (length p) ≡ true) where
   pub length-textBy : length (textBy u key iv p) ≡ length p
-  length-textBy = fitting u .ciphertext-length key iv p
+  length-textBy = modes-fitting u .ciphertext-length key iv p keyed permitted
 
   pub length-tagBy : length (tagBy u key name iv a p) ≡ modeOf u .tagSize
-  length-tagBy = fitting u .tag-length key iv (front u name (length p) ++ a) p
+  length-tagBy = modes-fitting u .tag-length key iv (front u name (length p) ++ a) p keyed permitted
 
-  pub length-recordOf : length iv ≡ modeOf u .ivSize → length (recordOf u key name iv a p) ≡ endAt (modeOf u) (length name) (length p)
-  length-recordOf iv-long =
-      ap length (sym recordOf-laid)
-      ∙ length-laid u name (length p) iv (textBy u key iv p) (tagBy u key name iv a p) iv-long length-textBy length-tagBy
+  pub length-recordOf : length (recordOf u key name iv a p) ≡ endAt (modeOf u) (length name) (length p)
+  length-recordOf =
+      ap length (sym (recordOf-laid u key name iv a p))
+      ∙ length-laid u name (length p) iv (textBy u key iv p) (tagBy u key name iv a p) (keyed .iv-size) length-textBy length-tagBy
+
+-- a row's key, and an IV of the length of its use's mode
+pub row-keyed : (t name row iv : List ℕ) → Bytes t → Bytes iv → tableOk t ≡ true → dataRow t name ≡ some row → length iv ≡ modeOf (useOf row) .ivSize
+    → Keyed (modeOf (useOf row)) (keyOf row) iv
+row-keyed t name row iv bytes iv-bytes ok has size =
+    record {
+      key-size = rowFor-good t name row ok has .key-size ∙ sym (key-size (useOf row));
+      key-bytes = row-key-bytes t name row bytes has;
+      iv-size = size;
+      iv-bytes = iv-bytes;
+    }
 
 -- ---- sealing makes r: over its definitions
 
 pub record SealedAs (t name iv a p r : List ℕ) : Type 0 where
-  pub row : List ℕ
-  pub has-row : rowFor t name ≡ some row
-  pub able : Sealable (tableOk t) row name iv a p (sealedSize (some row) name p)
-  pub is : recordOf (useOf row) (keyOf row) name iv a p ≡ r
+  pub bytes : Bytes p
+  pub iv-bytes : Bytes iv
+  pub able : InRange (tableOk t) (dataRow t name) name iv a (length p) (sealedSize (dataRow t name) name (length p))
+  pub is : recordOf (useOf (able .row)) (keyOf (able .row)) name iv a p ≡ r
 
-module _ (t name iv a p r : List ℕ) where
-  pub seals-as : Seals t name iv a p r → SealedAs t name iv a p r
-  seals-as h = record { row = h .row; has-row = h .has-row; able = able; is = is }
+-- the IV of bytes that begin with a front and the IV
+front-iv-bytes : (F iv S out r : List ℕ) → length F + length iv ≤ length out → over (F ++ (iv ++ S)) out ≡ r → Bytes r → Bytes iv
+front-iv-bytes F iv S out r fits e bytes = rw is at (bytes-take (length iv) (bytes-drop (length F) bytes))
+  where
+    rest : List ℕ
+    rest = over S (drop (length (F ++ iv)) out)
+
+    whole : F ++ (iv ++ rest) ≡ r
+    whole =
+        sym (append-assoc F iv rest)
+        ∙ sym (over-append (F ++ iv) S out (omega (arith, length-append F iv)))
+        ∙ ap (λ (l : List ℕ). over l out) (append-assoc F iv S)
+        ∙ e
+
+    is : take (length iv) (drop (length F) r) ≡ iv
+    is = ap (λ (l : List ℕ). partOf l (length F) (length iv)) (sym whole) ∙ part-at F iv rest (length F) (length iv) refl refl
+
+module _ (t name iv a p r : List ℕ) (table-bytes : Bytes t) where
+  pub as-keyed : (h : SealedAs t name iv a p r) → Keyed (modeOf (useOf (h .able .row))) (keyOf (h .able .row)) iv
+  as-keyed h = row-keyed t name (h .able .row) iv table-bytes (h .iv-bytes) (h .able .accepted) (h .able .has-row) (h .able .iv-size)
+
+  pub seals-as : Bytes r → Seals t name iv a p r → SealedAs t name iv a p r
+  unfolding recordOf
+  seals-as bytes h = record { bytes = h .bytes; iv-bytes = iv-bytes; able = able; is = is }
     where
       size : ℕ
-      size = sealedSize (some (h .row)) name p
+      size = sealedSize (dataRow t name) name (length p)
 
       out : List ℕ
       out = replicate size 0
@@ -132,40 +190,62 @@ module _ (t name iv a p r : List ℕ) where
       length-out : length out ≡ size
       length-out = length-replicate size 0
 
-      answered : sealRow (tableOk t) (some (h .row)) name iv a p out ≡ (0, r)
-      answered = ap (λ (o : Option (List ℕ)). sealRow (tableOk t) o name iv a p out) (sym (h .has-row)) ∙ h .makes out length-out
+      answered : sealAnswer t name iv a p out ≡ (0, r)
+      answered = h .makes out (length-out ∙ ap (λ (o : Option (List ℕ)). sealedSize o name (length p)) (h .has-row))
 
-      told : (sealNumber (tableOk t) (some (h .row)) name iv a p (length out) ≡ 0) × (over (recordOf (useOf (h .row)) (keyOf (h .row)) name iv a p) out ≡ r)
-      told = seal-told (tableOk t) (h .row) name iv a p out r answered
+      inside : InRange (tableOk t) (dataRow t name) name iv a (length p) (length out)
+      inside = zero-told t name iv a p out (ap (λ (x : ℕ × List ℕ). x .0) answered)
 
-      able : Sealable (tableOk t) (h .row) name iv a p size
-      able = sealable (tableOk t) name iv a p size (h .row) (rw length-out at (told .0))
+      u : ℕ
+      u = useOf (inside .row)
 
-      is : recordOf (useOf (h .row)) (keyOf (h .row)) name iv a p ≡ r
-      is =
-          sym (over-whole (recordOf (useOf (h .row)) (keyOf (h .row)) name iv a p) out
-          (length-recordOf (useOf (h .row)) (keyOf (h .row)) name iv a p (able .iv-long) ∙ sym length-out))
-          ∙ told .1
+      key : List ℕ
+      key = keyOf (inside .row)
+
+      written : over (recordOf u key name iv a p) out ≡ r
+      written = ap (λ (x : ℕ × List ℕ). x .1) (sym (range-sealed t name iv a p out inside) ∙ answered)
+
+      iv-bytes : Bytes iv
+      iv-bytes =
+          front-iv-bytes (front u name (length p)) iv _ out r (omega (arith, length-front u name (length p), inside .iv-size, inside .room-fits)) written bytes
+
+      keyed : Keyed (modeOf u) key iv
+      keyed = row-keyed t name (inside .row) iv table-bytes iv-bytes (inside .accepted) (inside .has-row) (inside .iv-size)
+
+      whole : length (recordOf u key name iv a p) ≡ length out
+      whole =
+          length-recordOf u key name iv a p keyed (inside .permitted)
+          ∙ ap (λ (o : Option (List ℕ)). sealedSize o name (length p)) (sym (inside .has-row))
+          ∙ sym length-out
+
+      able : InRange (tableOk t) (dataRow t name) name iv a (length p) size
+      able = with-room inside size (omega (arith, inside .room-fits, length-out))
+
+      is : recordOf u key name iv a p ≡ r
+      is = sym (over-whole (recordOf u key name iv a p) out whole) ∙ written
 
   pub as-seals : SealedAs t name iv a p r → Seals t name iv a p r
-  as-seals h = record { row = h .row; has-row = h .has-row; makes = makes }
+  as-seals h = record { bytes = h .bytes; row = h .able .row; has-row = h .able .has-row; makes = makes }
     where
-      makes : (out : List ℕ) → length out ≡ sealedSize (some (h .row)) name p → sealAnswer t name iv a p out ≡ (0, r)
+      makes : (out : List ℕ) → length out ≡ sealedSize (some (h .able .row)) name (length p) → sealAnswer t name iv a p out ≡ (0, r)
       makes out size =
-          ap (λ (o : Option (List ℕ)). sealRow (tableOk t) o name iv a p out) (h .has-row)
-          ∙ seal-done (tableOk t) (h .row) name iv a p out (rw size (h .able))
-          ∙ ap (λ (l : List ℕ). (0, l)) (over-whole _ out
-          (length-recordOf (useOf (h .row)) (keyOf (h .row)) name iv a p (h .able .iv-long) ∙ sym size) ∙ h .is)
+          range-sealed t name iv a p out (with-room (h .able) (length out) (omega arith))
+          ∙ ap (λ (l : List ℕ). (0, l))
+          (over-whole _ out (length-recordOf (useOf (h .able .row)) (keyOf (h .able .row)) name iv a p (as-keyed h) (h .able .permitted) ∙ sym size) ∙ h .is)
 
--- and what is read from r
-pub as-laid : (t name iv a p r : List ℕ) (h : SealedAs t name iv a p r)
-    → Laid (useOf (h .row)) name (length p) iv (textBy (useOf (h .row)) (keyOf (h .row)) iv p) (tagBy (useOf (h .row)) (keyOf (h .row)) name iv a p) r
-as-laid t name iv a p r h =
-    laid-out u name (length p) iv (textBy u key iv p) (tagBy u key name iv a p) (h .able .iv-long) (length-textBy u key name iv a p)
-    (length-tagBy u key name iv a p) (h .able .named) (h .able .short) (h .able .few) r (recordOf-laid u key name iv a p ∙ h .is)
-  where
-    u : ℕ
-    u = useOf (h .row)
+  -- and what is read from r
+  pub as-laid : (h : SealedAs t name iv a p r)
+      → let u = useOf (h .able .row) in let key = keyOf (h .able .row) in Laid u name (length p) iv (textBy u key iv p) (tagBy u key name iv a p) r
+  as-laid h =
+      laid-out u name (length p) iv (textBy u key iv p) (tagBy u key name iv a p) (h .able .iv-size) (length-textBy u key name iv a p keyed (h .able .permitted))
+      (length-tagBy u key name iv a p keyed (h .able .permitted)) (h .able .named) (h .able .permitted) (h .able .name-fits) (h .able .text-fits) r
+      (recordOf-laid u key name iv a p ∙ h .is)
+    where
+      u : ℕ
+      u = useOf (h .able .row)
 
-    key : List ℕ
-    key = keyOf (h .row)
+      key : List ℕ
+      key = keyOf (h .able .row)
+
+      keyed : Keyed (modeOf u) key iv
+      keyed = as-keyed h

@@ -1,30 +1,35 @@
 -- The laws of sealing with a session (specs/Laws.antt).
 -- Assumes nothing.
-use mathlib.Core.Path.{_≡_, refl, sym, ap, subst, _∙_}
+use mathlib.Core.Path.{_≡_, refl, sym, ap, _∙_}
 use mathlib.Core.Bool.{Bool, true, false}
-use mathlib.Core.List.{List}
-use mathlib.Core.Option.{Option, some}
-use Prim.Native.Nat.{ℕ, _+_}
+use mathlib.Core.List.{List, _++_, append-assoc}
+use mathlib.Core.Option.{Option}
+use Prim.Native.Nat.{ℕ, _+_, _-_, _≤_}
 use native.Mathlib.Omega.{arith}
 use borrow.Author.Tests.{eqb-true, eqb-false, ne-eqb, not-false}
 use lib.Dec.{eqb}
-use lib.ListN.{length, take}
-use Rattle.octets.specs.Lent.{when}
-use Rattle.octets.proofs.Lent.{one-answer}
-use Rattle.keytable.specs.Row.{useOf, keyOf}
-use Rattle.keytable.specs.Table.{tableOk, rowFor}
+use lib.ListN.{length, take, drop, length-append}
+use lib.Seq.{take-append-add}
+use Rattle.octets.specs.Lent.{when, over}
+use Rattle.octets.proofs.Tests.{part-at}
+use Rattle.octets.proofs.Unique.{unique, unique-by}
+use Rattle.keytable.specs.Row.{nameMax, useOf}
+use Rattle.keytable.specs.Table.{tableOk, dataRow}
 use Rattle.session.specs.Iv.{lastField, withFields, isSpent, ivOf, after}
 use Rattle.session.specs.Calls.{Answer, sessionAfter}
 use Rattle.session.specs.Laws.{Run}
 use Rattle.session.specs.declared.Session.{Session}
 use Rattle.session.proofs.Runs.{run-differs}
-use Rattle.record.specs.Record.{ivIn}
+use Rattle.modes.specs.Calls.{textMax}
+use Rattle.modes.specs.Modes.{modeOf}
+use Rattle.record.specs.Record.{ivAt, ivIn, front}
 use Rattle.record.specs.Seal.{recordOf, sealedSize, sealNumber, sealRow}
-use Rattle.record.specs.Next.{sealNextNumber, sealNextRow, sealNextAnswer}
-use Rattle.record.specs.Laws.{NextOtherRows, NextLive, NextSpent, NextSeals, NextAdvances, NextRefused, Lent, before, call, written, RecordsDiffer, SealByUnique, SealNextUnique}
-use Rattle.octets.proofs.Lent.{answer-done, take-over}
-use Rattle.record.proofs.Laid.{laid-out}
-use Rattle.record.proofs.Sealed.{Sealable, seal-row, sealable, textBy, tagBy, recordOf-laid, length-textBy, length-tagBy, length-recordOf}
+use Rattle.record.specs.Next.{sealedSays, sealNextNumber, sealNextRow, sealNextAnswer}
+use Rattle.record.specs.Laws.{NextOtherRows, NextLive, NextSpent, NextSeals, NextAdvances, NextRefused, Lent, before, call, written, RecordsDiffer, SealByUnique, SealNextUnique, SealNextTestsRise}
+use Rattle.octets.proofs.Lent.{answer-done}
+use Rattle.record.proofs.Written.{length-front, read-back}
+use Rattle.record.proofs.Filled.{over-append}
+use Rattle.record.proofs.Sealed.{in-range, range-sealed}
 use Rattle.record.proofs.WithSession.{next-zero, next-live, next-spent, next-done}
 
 -- ---- one call
@@ -34,24 +39,24 @@ next-other-rows s t u name a p out ok-t ok-u e = rw (ok-t, ok-u, e)
 
 pub next-as-sealing : NextLive
 unfolding sealNextRow sealRow
-next-as-sealing s t name a p out live = rw (next-live s (tableOk t) (rowFor t name) name a p (length out) live)
+next-as-sealing s t name a p out live = rw (next-live s (tableOk t) (dataRow t name) name a p (length out) live)
 
 pub next-where-spent : NextSpent
 unfolding sealRow
-next-where-spent s t name a p out spent e = next-spent s (tableOk t) (rowFor t name) name a p out e spent
+next-where-spent s t name a p out spent e = next-spent s (tableOk t) (dataRow t name) name a p out e spent
 
 -- 0 by the definition: sealing gave 0, and the session is not spent
-zero-told : (s : Session) (t name a p out : List ℕ) → sealNextAnswer s t name a p out .0 ≡ 0
-    → (sealNumber (tableOk t) (rowFor t name) name (ivOf s) a p (length out) ≡ 0) × (isSpent s ≡ false)
+next-told : (s : Session) (t name a p out : List ℕ) → sealNextAnswer s t name a p out .0 ≡ 0
+    → (sealNumber (tableOk t) (dataRow t name) name (ivOf s) a (length p) (length out) ≡ 0) × (isSpent s ≡ false)
 unfolding sealNextRow
-zero-told s t name a p out e = next-zero s (tableOk t) (rowFor t name) name a p (length out) e
+next-told s t name a p out e = next-zero s (tableOk t) (dataRow t name) name a p (length out) e
 
 pub next-seals : NextSeals
 unfolding sealRow
 next-seals s t name a p out e =
-    let (number, live) = zero-told s t name a p out e in
+    let (number, live) = next-told s t name a p out e in
     answer-done _ _ out number
-    ∙ ap (λ (x : Answer). (0, x .1)) (sym (next-done s (tableOk t) (rowFor t name) name a p out number live))
+    ∙ ap (λ (x : Answer). (0, x .1)) (sym (next-done s (tableOk t) (dataRow t name) name a p out number live))
 
 -- an IV always leads to another session
 moved : (s : Session) → isSpent s ≡ false → after s ≡ s → ⊥
@@ -70,7 +75,7 @@ next-moves s t name a p out = refl
 
 pub next-refused-same : NextRefused
 unfolding sealNextRow
-next-refused-same s t name a p out h = rw (ne-eqb (sealNextNumber s (tableOk t) (rowFor t name) name a p (length out)) 0 h)
+next-refused-same s t name a p out h = rw (ne-eqb (sealNextNumber s (tableOk t) (dataRow t name) name a (length p) (length out)) 0 h)
 
 pub next-advances : NextAdvances
 next-advances s t name a p out = (advances, (changes, changed))
@@ -82,7 +87,7 @@ next-advances s t name a p out = (advances, (changes, changed))
     advances e = next-moves s t name a p out ∙ ap (λ (m : ℕ). sessionAfter m s) e
 
     changes : n ≡ 0 → sealNextAnswer s t name a p out .2 ≡ s → ⊥
-    changes e same = moved s (zero-told s t name a p out e .1) (sym (advances e) ∙ same)
+    changes e same = moved s (next-told s t name a p out e .1) (sym (advances e) ∙ same)
 
     changed : (sealNextAnswer s t name a p out .2 ≡ s → ⊥) → n ≡ 0
     changed h = go (eqb n 0) refl
@@ -93,33 +98,48 @@ next-advances s t name a p out = (advances, (changes, changed))
 
 -- ---- the IV of the record that was written
 
-iv-by : (s : Session) (ok : Bool) (row name a p out : List ℕ) → sealNumber ok (some row) name (ivOf s) a p (length out) ≡ 0 → isSpent s ≡ false
-    → ivIn (take (sealedSize (some row) name p) (sealNextRow s ok (some row) name a p out .1)) ≡ ivOf s
-iv-by s ok row name a p out e live =
-    laid-out u name (length p) (ivOf s) (textBy u key (ivOf s) p) (tagBy u key name (ivOf s) a p) (able .iv-long) (length-textBy u key name (ivOf s) a p)
-    (length-tagBy u key name (ivOf s) a p) (able .named) (able .short) (able .few) _ (recordOf-laid u key name (ivOf s) a p ∙ sym wrote) .iv-is
+-- what is written begins with the front and the IV
+begun : (F iv S out : List ℕ) (size : ℕ) → length F + length iv ≤ size → size ≤ length out
+    → take size (over (F ++ (iv ++ S)) out) ≡ F ++ (iv ++ take (size - (length F + length iv)) (over S (drop (length (F ++ iv)) out)))
+begun F iv S out size short fits =
+    ap (take size) (ap (λ (l : List ℕ). over l out) (sym (append-assoc F iv S)) ∙ over-append (F ++ iv) S out (omega (arith, both)))
+    ∙ ap (λ (n : ℕ). take n ((F ++ iv) ++ rest)) up-to
+    ∙ take-append-add (F ++ iv) rest (size - (length F + length iv))
+    ∙ append-assoc F iv (take (size - (length F + length iv)) rest)
   where
-    u : ℕ
-    u = useOf row
+    rest : List ℕ
+    rest = over S (drop (length (F ++ iv)) out)
 
-    key : List ℕ
-    key = keyOf row
+    both : length (F ++ iv) ≡ length F + length iv
+    both = length-append F iv
 
-    able : Sealable ok row name (ivOf s) a p (length out)
-    able = sealable ok name (ivOf s) a p (length out) row e
+    up-to : size ≡ length (F ++ iv) + (size - (length F + length iv))
+    up-to = omega (arith, both)
 
-    wrote : take (sealedSize (some row) name p) (sealNextRow s ok (some row) name a p out .1) ≡ recordOf u key name (ivOf s) a p
-    wrote =
-        ap (λ (x : Answer). take (sealedSize (some row) name p) (x .1)) (next-done s ok (some row) name a p out e live)
-        ∙ take-over (recordOf u key name (ivOf s) a p) out (sealedSize (some row) name p) (length-recordOf u key name (ivOf s) a p (able .iv-long)) (able .fits)
+-- and its fields say where the IV stands
+iv-read : (u : ℕ) (name : List ℕ) (n : ℕ) (iv rest : List ℕ) → length name ≤ nameMax → n ≤ textMax → length iv ≡ modeOf u .ivSize
+    → ivIn (front u name n ++ (iv ++ rest)) ≡ iv
+unfolding ivIn
+iv-read u name n iv rest short few size =
+    let fields = read-back u n name (iv ++ rest) short few in
+    rw (fields .mode, fields .size) (part-at (front u name n) iv rest (ivAt (length name)) (modeOf u .ivSize) (length-front u name n) size)
 
 iv-written : (s : Session) (t name a p out : List ℕ) → sealNextAnswer s t name a p out .0 ≡ 0
-    → ivIn (take (sealedSize (rowFor t name) name p) (sealNextAnswer s t name a p out .1)) ≡ ivOf s
+    → ivIn (take (sealedSize (dataRow t name) name (length p)) (sealNextAnswer s t name a p out .1)) ≡ ivOf s
+unfolding recordOf
 iv-written s t name a p out e =
-    let (number, live) = zero-told s t name a p out e in
-    let (row, has) = seal-row (tableOk t) name (ivOf s) a p (length out) (rowFor t name) number in
-    subst (λ (o : Option (List ℕ)). ivIn (take (sealedSize o name p) (sealNextRow s (tableOk t) o name a p out .1)) ≡ ivOf s) (sym has)
-    (iv-by s (tableOk t) row name a p out (rw has at number) live)
+    let (number, live) = next-told s t name a p out e in
+    let h = in-range (tableOk t) name (ivOf s) a (length p) (length out) (dataRow t name) number in
+    let u = useOf (h .row) in
+    let F = front u name (length p) in
+    let size = sealedSize (dataRow t name) name (length p) in
+    let size-is = ap (λ (o : Option (List ℕ)). sealedSize o name (length p)) (h .has-row) in
+    let fits : size ≤ length out = omega (arith, size-is, h .room-fits) in
+    let short : length F + length (ivOf s) ≤ size = omega (arith, size-is, length-front u name (length p), h .iv-size) in
+    ap (λ (l : List ℕ). ivIn (take size l))
+    (ap (λ (x : ℕ × List ℕ). x .1) (sym (next-seals s t name a p out e) ∙ range-sealed t name (ivOf s) a p out h))
+    ∙ ap ivIn (begun F (ivOf s) _ out size short fits)
+    ∙ iv-read u name (length p) (ivOf s) _ (h .name-fits) (h .text-fits) (h .iv-size)
 
 -- ---- calls one after another
 
@@ -127,7 +147,7 @@ calls : (lent : ℕ → Lent) (s : Session) → Run (before lent s) (λ i. call 
 calls lent s =
     record {
       moves = λ i. let l = lent i in next-moves (before lent s i) (l .table) (l .name) (l .aad) (l .plain) (l .out);
-      live = λ i e. let l = lent i in zero-told (before lent s i) (l .table) (l .name) (l .aad) (l .plain) (l .out) e .1;
+      live = λ i e. let l = lent i in next-told (before lent s i) (l .table) (l .name) (l .aad) (l .plain) (l .out) e .1;
     }
 
 pub records-differ : RecordsDiffer
@@ -139,11 +159,12 @@ records-differ s lent i j below hi hj e = run-differs (before lent s) _ (calls l
 -- ---- one answer
 
 pub seal-by-unique : SealByUnique
-seal-by-unique s t name a p out x y left left′ ex ey =
-    let same = one-answer ex ey in (
-      ap (λ (z : Answer). record { number = z .0; session = z .2 }) same,
-      ap (λ (z : Answer). z .1) same,
-    )
+seal-by-unique s t name a p out = unique-by sealedSays (λ (z : Answer). (record { number = z .0; session = z .2 }, z .1)) (λ x. refl) (sealNextAnswer s t name a p out)
 
 pub seal-next-unique : SealNextUnique
-seal-next-unique s t name a p out x y = one-answer
+seal-next-unique s t name a p out = unique (sealNextAnswer s t name a p out)
+
+-- ---- the numbers rise
+
+pub seal-next-tests-rise : SealNextTestsRise
+seal-next-tests-rise s ok row name a n room = refl

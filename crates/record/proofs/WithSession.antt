@@ -35,16 +35,16 @@ lowest-then (n ∷ ns) ms h = go (n .1) (lowest-then ns ms (and-right (not (eqb 
 -- ---- over the definition
 
 module _ (s : Session) (ok : Bool) (row : Option (List ℕ)) (name a p : List ℕ) where
-  next-number : (room : ℕ) → sealNextNumber s ok row name a p room
-      ≡ when (eqb (sealNumber ok row name (ivOf s) a p room) 0) (lowest ((10, isSpent s) ∷ [])) (sealNumber ok row name (ivOf s) a p room)
+  next-number : (room : ℕ) → sealNextNumber s ok row name a (length p) room
+      ≡ when (eqb (sealNumber ok row name (ivOf s) a (length p) room) 0) (lowest ((10, isSpent s) ∷ [])) (sealNumber ok row name (ivOf s) a (length p) room)
   unfolding sealNextNumber sealNumber
-  next-number room = lowest-then (sealTests ok row name (ivOf s) a p room) ((10, isSpent s) ∷ []) refl
+  next-number room = lowest-then (sealTests ok row name (ivOf s) a (length p) room) ((10, isSpent s) ∷ []) refl
 
-  refused : (room n : ℕ) → sealNumber ok row name (ivOf s) a p room ≡ n → (n ≡ 0 → ⊥) → sealNextNumber s ok row name a p room ≡ n
+  refused : (room n : ℕ) → sealNumber ok row name (ivOf s) a (length p) room ≡ n → (n ≡ 0 → ⊥) → sealNextNumber s ok row name a (length p) room ≡ n
   refused room n e h = next-number room ∙ rw (e, ne-eqb n 0 h)
 
-  pub next-live : (room : ℕ) → isSpent s ≡ false → sealNextNumber s ok row name a p room ≡ sealNumber ok row name (ivOf s) a p room
-  next-live room live = next-number room ∙ rw live (same (sealNumber ok row name (ivOf s) a p room))
+  pub next-live : (room : ℕ) → isSpent s ≡ false → sealNextNumber s ok row name a (length p) room ≡ sealNumber ok row name (ivOf s) a (length p) room
+  next-live room live = next-number room ∙ rw live (same (sealNumber ok row name (ivOf s) a (length p) room))
     where
       go : (n : ℕ) (b : Bool) → eqb n 0 ≡ b → when b 0 n ≡ n
       go n true e = sym (eqb-true n 0 e)
@@ -54,12 +54,12 @@ module _ (s : Session) (ok : Bool) (row : Option (List ℕ)) (name a p : List �
       same n = go n (eqb n 0) refl
 
   -- where it gives 0: sealing does, and the session is not spent
-  pub next-zero : (room : ℕ) → sealNextNumber s ok row name a p room ≡ 0 → (sealNumber ok row name (ivOf s) a p room ≡ 0) × (isSpent s ≡ false)
+  pub next-zero : (room : ℕ) → sealNextNumber s ok row name a (length p) room ≡ 0 → (sealNumber ok row name (ivOf s) a (length p) room ≡ 0) × (isSpent s ≡ false)
   next-zero room e =
-      go (eqb (sealNumber ok row name (ivOf s) a p room) 0) refl (sym (next-number room) ∙ e)
+      go (eqb (sealNumber ok row name (ivOf s) a (length p) room) 0) refl (sym (next-number room) ∙ e)
     where
       number : ℕ
-      number = sealNumber ok row name (ivOf s) a p room
+      number = sealNumber ok row name (ivOf s) a (length p) room
 
       last : (b : Bool) → _≡_ {A = ℕ} (when b 10 0) 0 → b ≡ false
       last true h = absurd (omega arith)
@@ -70,11 +70,11 @@ module _ (s : Session) (ok : Bool) (row : Option (List ℕ)) (name a p : List �
       go false q h = absurd (eqb-false number 0 q h)
 
   module _ (out : List ℕ) where
-    pub next-refused : (n : ℕ) → sealNumber ok row name (ivOf s) a p (length out) ≡ n → (n ≡ 0 → ⊥) → sealNextRow s ok row name a p out ≡ (n, out, s)
+    pub next-refused : (n : ℕ) → sealNumber ok row name (ivOf s) a (length p) (length out) ≡ n → (n ≡ 0 → ⊥) → sealNextRow s ok row name a p out ≡ (n, out, s)
     unfolding sealNextRow
     next-refused n e h = rw (refused (length out) n e h, ne-eqb n 0 h)
 
-    module _ (e : sealNumber ok row name (ivOf s) a p (length out) ≡ 0) where
+    module _ (e : sealNumber ok row name (ivOf s) a (length p) (length out) ≡ 0) where
       pub next-spent : isSpent s ≡ true → sealNextRow s ok row name a p out ≡ (10, out, s)
       unfolding sealNextRow
       next-spent spent = rw (next-number (length out), e, spent)
@@ -108,18 +108,18 @@ module _ (s : Session) (m : ℕ) (iv : List ℕ) (t : Session) (e : advanceAnswe
 
   -- and sealing's number looks at that length alone
   module _ (size : length (s .prefix) ≡ prefixSize) (ok : Bool) (row : Option (List ℕ)) (name a p out : List ℕ) where
-    number-alike : sealNumber ok row name iv a p (length out) ≡ sealNumber ok row name (ivOf s) a p (length out)
+    number-alike : sealNumber ok row name iv a (length p) (length out) ≡ sealNumber ok row name (ivOf s) a (length p) (length out)
     unfolding sealNumber
     number-alike = rw (iv-alike size)
 
-    pub by-refused : (n : ℕ) → readyBy ok row name iv a p (length out) ≡ (n, none) → sealNextRow s ok row name a p out ≡ (n, out, s)
+    pub by-refused : (n : ℕ) → readyBy ok row name iv a (length p) (length out) ≡ (n, none) → sealNextRow s ok row name a p out ≡ (n, out, s)
     by-refused n r =
-        let (number, not-zero) = ready-refused ok row name iv a p (length out) n r in
+        let (number, not-zero) = ready-refused ok row name iv a (length p) (length out) n r in
         next-refused s ok row name a p out n (sym number-alike ∙ number) not-zero
 
-    module _ (found : List ℕ) (r : readyBy ok row name iv a p (length out) ≡ (0, some found)) where
-      passed : sealNumber ok row name (ivOf s) a p (length out) ≡ 0
-      passed = sym number-alike ∙ ready-number ok row name iv a p (length out) found r
+    module _ (found : List ℕ) (r : readyBy ok row name iv a (length p) (length out) ≡ (0, some found)) where
+      passed : sealNumber ok row name (ivOf s) a (length p) (length out) ≡ 0
+      passed = sym number-alike ∙ ready-number ok row name iv a (length p) (length out) found r
 
       pub by-spent : (m ≡ 0 → ⊥) → sealNextRow s ok row name a p out ≡ (m, out, t)
       by-spent h =

@@ -13,9 +13,10 @@ use Rattle.octets.proofs.Values.{bytesAt-part}
 use Rattle.octets.proofs.BigEndian.{number-be, be-numberAt}
 use Rattle.keytable.specs.Row.{nameMax}
 use Rattle.modes.specs.Calls.{textMax}
-use Rattle.record.specs.Record.{recordFormat, nameAt, modeOf, ivAt, textAt, tagAt, endAt, modeIn, countIn, nameSize, layoutOk, frontIn, nameIn, header, front}
+use Rattle.modes.specs.Modes.{modeOf}
+use Rattle.record.specs.Record.{recordFormat, nameAt, ivAt, textAt, tagAt, endAt, modeIn, countIn, nameSize, layoutOk, frontIn, nameIn, header, front}
 use Rattle.record.specs.Laws.{ReadBack}
-use Rattle.record.proofs.Numbers.{iv-size}
+use Rattle.record.proofs.Numbers.{iv-small}
 use Rattle.record.proofs.Parts.{Kept, layout-kept, length-nameIn}
 
 -- ---- there
@@ -39,21 +40,22 @@ module _ (u k n : ℕ) (rest : List ℕ) (short : k ≤ nameMax) (few : n < 2 ^ 
   header-size = number-be 2 k (omega (arith, short))
 
   -- its offsets match, and so does the total where the record has that length
-  pub header-kept : 1 ≤ k → length (header u k n ++ rest) ≡ endAt (modeOf u) k n → Kept (header u k n ++ rest)
+  pub header-kept : 1 ≤ k → modeOf u .permits n ≡ true → length (header u k n ++ rest) ≡ endAt (modeOf u) k n → Kept (header u k n ++ rest)
   unfolding header
-  header-kept named whole =
+  header-kept named permitted whole =
       record {
         format = refl;
         zero-byte = refl;
         name-at = refl;
         named = rw header-size named;
         iv-at = number-be 2 (ivAt k) (omega (arith, short)) ∙ ap ivAt (sym header-size);
-        iv-long = number-be 2 (modeOf u .ivSize) (omega (arith, iv-size u));
-        text-at = number-be 4 (textAt (modeOf u) k) (omega (arith, short, iv-size u)) ∙ ap (textAt (modeOf u)) (sym header-size);
+        iv-long = number-be 2 (modeOf u .ivSize) (omega (arith, iv-small u));
+        text-at = number-be 4 (textAt (modeOf u) k) (omega (arith, short, iv-small u)) ∙ ap (textAt (modeOf u)) (sym header-size);
         tag-at =
-            number-be 4 (tagAt (modeOf u) k n) (omega (arith, short, few, iv-size u))
+            number-be 4 (tagAt (modeOf u) k n) (omega (arith, short, few, iv-small u))
             ∙ ap₂ (tagAt (modeOf u)) (sym header-size) (sym header-count);
         end-at = whole ∙ ap₂ (endAt (modeOf u)) (sym header-size) (sym header-count);
+        permitted = ap (modeOf u .permits) header-count ∙ permitted;
       }
 
 module _ (u n : ℕ) (name rest : List ℕ) (short : length name ≤ nameMax) (few : n ≤ textMax) where
@@ -81,10 +83,10 @@ module _ (u n : ℕ) (name rest : List ℕ) (short : length name ≤ nameMax) (f
       size-is : nameSize (front u name n ++ rest) ≡ length name
       size-is = rw front-header at size
 
-  pub front-kept : 1 ≤ length name → length (front u name n ++ rest) ≡ endAt (modeOf u) (length name) n → Kept (front u name n ++ rest)
-  front-kept named whole =
+  pub front-kept : 1 ≤ length name → modeOf u .permits n ≡ true → length (front u name n ++ rest) ≡ endAt (modeOf u) (length name) n → Kept (front u name n ++ rest)
+  front-kept named permitted whole =
       rw front-header at
-      (header-kept u (length name) n (name ++ rest) short (omega (arith, few)) named (ap length front-header ∙ whole))
+      (header-kept u (length name) n (name ++ rest) short (omega (arith, few)) named permitted (ap length front-header ∙ whole))
 
 -- ---- back
 

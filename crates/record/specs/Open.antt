@@ -6,11 +6,12 @@ use mathlib.Core.List.{List, [], _∷_, _++_}
 use mathlib.Core.Option.{Option, some, none}
 use lib.ListN.{length}
 use lib.Dec.{eqb, ltb}
-use Rattle.octets.specs.Lent.{when, lowest, answer}
+use Rattle.octets.specs.Lent.{Tests, lowest, kept, answer}
 use Rattle.keytable.specs.Row.{keyOf}
-use Rattle.keytable.specs.Table.{tableOk, rowFor}
+use Rattle.keytable.specs.Table.{tableOk, dataRow}
 use Rattle.keytable.specs.Calls.{missing, useIn}
-use Rattle.record.specs.Record.{permitted, modeFor, modeIn, countIn, nameSize, layoutOk, frontIn, nameIn, ivIn, textIn, tagIn}
+use Rattle.modes.specs.Modes.{namesMode}
+use Rattle.record.specs.Record.{modeFor, modeIn, countIn, nameSize, layoutOk, frontIn, nameIn, ivIn, textIn, tagIn}
 use Rattle.record.specs.Read.{passes}
 use Rattle.record.specs.Seal.{callersMax}
 
@@ -29,11 +30,15 @@ abbrev pub plaintextIn : Option (List ℕ) → List ℕ → List ℕ
 plaintextIn none r = []
 plaintextIn (some row) r = plaintextBy (keyOf row) r
 
-abbrev pub openTests : Bool → Option (List ℕ) → List ℕ → List ℕ → ℕ → List (ℕ × Bool)
+-- the tag by itself
+abbrev pub tagTests : List ℕ → List ℕ → List ℕ → Tests
+tagTests key r a = (9, not (authenticBy key r a)) ∷ []
+
+abbrev pub openTests : Bool → Option (List ℕ) → List ℕ → List ℕ → ℕ → Tests
 openTests ok row r a room =
     (1, not ok)
     ∷ (2, not (layoutOk r))
-    ∷ (3, not (permitted (modeIn r)))
+    ∷ (3, not (namesMode (modeIn r)))
     ∷ (4, passes (nameSize r) (countIn r) || ltb callersMax (length a))
     ∷ (5, ltb room (countIn r))
     ∷ (6, missing row)
@@ -47,7 +52,7 @@ openNumber ok row r a room = lowest (openTests ok row r a room)
 -- the number and the output; and the count, which is lent and changed by 0 alone
 unfoldable pub openRow : Bool → Option (List ℕ) → List ℕ → List ℕ → List ℕ → ℕ → (ℕ × List ℕ) × ℕ
 openRow ok row r a out count =
-    (answer (openNumber ok row r a (length out)) (plaintextIn row r) out, when (eqb (openNumber ok row r a (length out)) 0) (countIn r) count)
+    (answer (openNumber ok row r a (length out)) (plaintextIn row r) out, kept (openNumber ok row r a (length out)) (countIn r) count)
 
 abbrev pub openAnswer : List ℕ → List ℕ → List ℕ → List ℕ → ℕ → (ℕ × List ℕ) × ℕ
-openAnswer t r a out count = openRow (tableOk t) (rowFor t (nameIn r)) r a out count
+openAnswer t r a out count = openRow (tableOk t) (dataRow t (nameIn r)) r a out count

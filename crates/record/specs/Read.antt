@@ -3,11 +3,12 @@
 use Prim.Native.Nat.{ℕ}
 use mathlib.Core.Bool.{Bool, not, _||_}
 use mathlib.Core.List.{List, [], _∷_}
-use lib.Dec.{eqb, ltb}
-use Rattle.octets.specs.Lent.{when, lowest}
+use lib.Dec.{ltb}
+use Rattle.octets.specs.Lent.{Tests, lowest, kept}
 use Rattle.keytable.specs.Row.{nameMax}
 use Rattle.modes.specs.Calls.{textMax}
-use Rattle.record.specs.Record.{permitted, modeIn, countIn, nameSize, layoutOk}
+use Rattle.modes.specs.Modes.{namesMode}
+use Rattle.record.specs.Record.{modeIn, countIn, nameSize, layoutOk}
 use Rattle.record.specs.declared.header.Header.{Header}
 use Rattle.record.specs.declared.header.Header.the-variants.{Fields, BadForm, BadMode, TooLong}
 
@@ -15,8 +16,8 @@ use Rattle.record.specs.declared.header.Header.the-variants.{Fields, Bad
 abbrev pub passes : ℕ → ℕ → Bool
 passes k n = ltb nameMax k || ltb textMax n
 
-abbrev pub readTests : List ℕ → List (ℕ × Bool)
-readTests r = (2, not (layoutOk r)) ∷ (3, not (permitted (modeIn r))) ∷ (4, passes (nameSize r) (countIn r)) ∷ []
+abbrev pub readTests : List ℕ → Tests
+readTests r = (2, not (layoutOk r)) ∷ (3, not (namesMode (modeIn r))) ∷ (4, passes (nameSize r) (countIn r)) ∷ []
 
 unfoldable pub readNumber : List ℕ → ℕ
 readNumber r = lowest (readTests r)
@@ -29,4 +30,4 @@ headerSays BadMode = (3, [])
 headerSays TooLong = (4, [])
 
 unfoldable pub readAnswer : List ℕ → ℕ × List ℕ
-readAnswer r = (readNumber r, when (eqb (readNumber r) 0) (modeIn r ∷ nameSize r ∷ countIn r ∷ []) [])
+readAnswer r = (readNumber r, kept (readNumber r) (modeIn r ∷ nameSize r ∷ countIn r ∷ []) [])

@@ -1,24 +1,14 @@
 -- The record of document 01 ("Record"): its layout, its parts, and the bytes before its IV.
 -- Assumes nothing.
 use Prim.Native.Nat.{ℕ, _+_}
-use mathlib.Core.Bool.{Bool, _||_}
+use mathlib.Core.Bool.{Bool}
 use mathlib.Core.List.{List, [], _∷_, _++_}
 use lib.ListN.{length, getD}
 use lib.Dec.{eqb, leb}
 use Rattle.octets.specs.BigEndian.{be, numberAt}
-use Rattle.octets.specs.Lent.{when}
 use Rattle.octets.specs.Tests.{every, partOf}
 use Rattle.modes.specs.Mode.{Mode}
-use Rattle.modes.specs.Ccm.{ccm}
-use Rattle.modes.specs.Gcm.{gcm}
-
--- "2 mode (01h CCM, 02h GCM)"
-abbrev pub permitted : ℕ → Bool
-permitted u = eqb u 1 || eqb u 2
-
--- the mode that a byte names; what names none is measured by CCM's lengths
-abbrev pub modeOf : ℕ → Mode
-modeOf u = when (eqb u 2) gcm ccm
+use Rattle.modes.specs.Modes.{modeOf}
 
 -- ---- places, by the mode m, the name's length k and the plaintext's count n: header, name, IV, ciphertext, tag, and the end
 
@@ -54,8 +44,12 @@ nameSize r = numberAt 2 r 10
 abbrev pub modeFor : List ℕ → Mode
 modeFor r = modeOf (modeIn r)
 
--- "0-1 format 0001h; 3 zero; 8-9 offset of the name, 24; 12-13 offset of the IV, 24+k; 14-15 IV length, 12; 16-19 offset of the ciphertext, 36+k;
--- 20-23 offset of the tag, 36+k+n", "and the end at 52+k+n"; "k 0" breaks the layout
+-- the end that a record's own header gives
+abbrev pub endIn : List ℕ → ℕ
+endIn r = endAt (modeFor r) (nameSize r) (countIn r)
+
+-- "0-1 format 0001h; .. 3 zero; .. 8-9 offset of the name, 24; .. 12-13 offset of the IV, 24+k; 14-15 IV length, 12; 16-19 offset of the ciphertext,
+-- 36+k; 20-23 offset of the tag, 36+k+n. .. and the end at 52+k+n"; a name has a byte at least, and n is a length that the mode permits
 abbrev pub layoutTests : List ℕ → List Bool
 layoutTests r =
     eqb (numberAt 2 r 0) recordFormat
@@ -66,7 +60,8 @@ layoutTests r =
     ∷ eqb (numberAt 2 r 14) (modeFor r .ivSize)
     ∷ eqb (numberAt 4 r 16) (textAt (modeFor r) (nameSize r))
     ∷ eqb (numberAt 4 r 20) (tagAt (modeFor r) (nameSize r) (countIn r))
-    ∷ eqb (length r) (endAt (modeFor r) (nameSize r) (countIn r))
+    ∷ eqb (length r) (endIn r)
+    ∷ modeFor r .permits (countIn r)
     ∷ []
 
 unfoldable pub layoutOk : List ℕ → Bool

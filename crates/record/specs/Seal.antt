@@ -6,12 +6,13 @@ use mathlib.Core.List.{List, [], _∷_, _++_}
 use mathlib.Core.Option.{Option, some, none}
 use lib.ListN.{length}
 use lib.Dec.{eqb, ltb}
-use Rattle.octets.specs.Lent.{when, isNot, lowest, answer}
+use Rattle.octets.specs.Lent.{Tests, isNot, lowest, kept, answer}
 use Rattle.keytable.specs.Row.{useOf, keyOf}
-use Rattle.keytable.specs.Table.{tableOk, rowFor, rowAt}
+use Rattle.keytable.specs.Table.{tableOk, dataRow, rowAt}
 use Rattle.keytable.specs.Calls.{missing, useIn}
 use Rattle.modes.specs.Mode.{sealed}
-use Rattle.record.specs.Record.{permitted, modeOf, endAt, front}
+use Rattle.modes.specs.Modes.{namesMode, modeOf}
+use Rattle.record.specs.Record.{endAt, front}
 use Rattle.record.specs.Read.{passes}
 use Rattle.record.specs.declared.sealing.Ready.{Ready}
 use Rattle.record.specs.declared.sealing.Ready.the-variants.{At, Refused}
@@ -29,41 +30,42 @@ abbrev pub recordBy : Option (List ℕ) → List ℕ → List ℕ → List ℕ �
 recordBy none name iv a p = []
 recordBy (some row) name iv a p = recordOf (useOf row) (keyOf row) name iv a p
 
--- "52+k+n": the bytes that sealing by a row fills; without a row, CCM's
-abbrev pub sealedSize : Option (List ℕ) → List ℕ → List ℕ → ℕ
-sealedSize row name p = endAt (modeOf (useIn row)) (length name) (length p)
+-- "52+k+n": the bytes that sealing n bytes by a row fills; without a row, CCM's
+abbrev pub sealedSize : Option (List ℕ) → List ℕ → ℕ → ℕ
+sealedSize row name n = endAt (modeOf (useIn row)) (length name) n
 
-abbrev pub sealTests : Bool → Option (List ℕ) → List ℕ → List ℕ → List ℕ → List ℕ → ℕ → List (ℕ × Bool)
-sealTests ok row name iv a p room =
+-- sealing n bytes into so much room: of the plaintext its length alone is looked at
+abbrev pub sealTests : Bool → Option (List ℕ) → List ℕ → List ℕ → List ℕ → ℕ → ℕ → Tests
+sealTests ok row name iv a n room =
     (1, not ok)
-    ∷ (2, eqb (length name) 0 || isNot (modeOf (useIn row) .ivSize) iv)
-    ∷ (4, passes (length name) (length p) || ltb callersMax (length a))
-    ∷ (5, ltb room (sealedSize row name p))
+    ∷ (2, eqb (length name) 0 || isNot (modeOf (useIn row) .ivSize) iv || not (modeOf (useIn row) .permits n))
+    ∷ (4, passes (length name) n || ltb callersMax (length a))
+    ∷ (5, ltb room (sealedSize row name n))
     ∷ (6, missing row)
-    ∷ (7, not (permitted (useIn row)))
+    ∷ (7, not (namesMode (useIn row)))
     ∷ []
 
-unfoldable pub sealNumber : Bool → Option (List ℕ) → List ℕ → List ℕ → List ℕ → List ℕ → ℕ → ℕ
-sealNumber ok row name iv a p room = lowest (sealTests ok row name iv a p room)
+unfoldable pub sealNumber : Bool → Option (List ℕ) → List ℕ → List ℕ → List ℕ → ℕ → ℕ → ℕ
+sealNumber ok row name iv a n room = lowest (sealTests ok row name iv a n room)
 
 -- the tests by themselves: each case's number, and the row that comes with 0
 abbrev pub readyNumber : Ready → ℕ
-readyNumber (At place) = 0
+readyNumber (At i) = 0
 readyNumber (Refused n) = n
 
 abbrev pub readyRow : List ℕ → Ready → Option (List ℕ)
-readyRow t (At place) = some (rowAt t place)
+readyRow t (At i) = some (rowAt t i)
 readyRow t (Refused n) = none
 
-unfoldable pub readyBy : Bool → Option (List ℕ) → List ℕ → List ℕ → List ℕ → List ℕ → ℕ → ℕ × Option (List ℕ)
-readyBy ok row name iv a p room = (sealNumber ok row name iv a p room, when (eqb (sealNumber ok row name iv a p room) 0) row none)
+unfoldable pub readyBy : Bool → Option (List ℕ) → List ℕ → List ℕ → List ℕ → ℕ → ℕ → ℕ × Option (List ℕ)
+readyBy ok row name iv a n room = (sealNumber ok row name iv a n room, kept (sealNumber ok row name iv a n room) row none)
 
-abbrev pub readyAnswer : List ℕ → List ℕ → List ℕ → List ℕ → List ℕ → ℕ → ℕ × Option (List ℕ)
-readyAnswer t name iv a p room = readyBy (tableOk t) (rowFor t name) name iv a p room
+abbrev pub readyAnswer : List ℕ → List ℕ → List ℕ → List ℕ → ℕ → ℕ → ℕ × Option (List ℕ)
+readyAnswer t name iv a n room = readyBy (tableOk t) (dataRow t name) name iv a n room
 
 -- by whether the table is accepted and the row that matched
 unfoldable pub sealRow : Bool → Option (List ℕ) → List ℕ → List ℕ → List ℕ → List ℕ → List ℕ → ℕ × List ℕ
-sealRow ok row name iv a p out = answer (sealNumber ok row name iv a p (length out)) (recordBy row name iv a p) out
+sealRow ok row name iv a p out = answer (sealNumber ok row name iv a (length p) (length out)) (recordBy row name iv a p) out
 
 abbrev pub sealAnswer : List ℕ → List ℕ → List ℕ → List ℕ → List ℕ → List ℕ → ℕ × List ℕ
-sealAnswer t name iv a p out = sealRow (tableOk t) (rowFor t name) name iv a p out
+sealAnswer t name iv a p out = sealRow (tableOk t) (dataRow t name) name iv a p out

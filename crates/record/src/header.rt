@@ -1,11 +1,11 @@
 // A record's header, read and written. Sums are made in 64 bits, so that no count makes them come round.
-use crate::mode::is_permitted;
-use crate::sizes::IV_SIZE;
 use crate::sizes::NAME_AT;
 use crate::sizes::NAME_MAX;
 use crate::sizes::RECORD_FORMAT;
-use crate::sizes::TAG_SIZE;
 use crate::sizes::TEXT_MAX;
+use modes::iv_size;
+use modes::names_mode;
+use modes::tag_size;
 use octets::big_endian::read8;
 use octets::big_endian::read16;
 use octets::big_endian::read32;
@@ -40,8 +40,8 @@ fn mode_in(r: &[u8]) -> u8
 
 // The place of the tag, n bytes after that of the ciphertext: a 32-bit sum would come round where n is FFFFFFFFh.
 fn tag_place(text: usize, n: usize) -> usize
-    requires { ⌜ (text ≤ 65571) × (n < 4294967296) ⌝ }
-    ensures { λ r. ⌜ (r ≡ text + n) × (r < 4295032867) ⌝ }
+    requires { ⌜ (text < 131072) × (n < 4294967296) ⌝ }
+    ensures { λ r. ⌜ (r ≡ text + n) × (r < 4295098368) ⌝ }
 {
     text + n
 }
@@ -50,20 +50,23 @@ fn tag_place(text: usize, n: usize) -> usize
 fn layout_ok(r: &[u8]) -> bool
     ensures { λ ok. ⌜ ok ≡ layoutOk (now (r .entry)) ⌝ }
 {
+    let mode = mode_in(r);
+    let iv_long = iv_size(mode);
     let n = read32(r, 4);
     let k = read16(r, 10);
     let iv_at = NAME_AT + k;
-    let text_at = iv_at + IV_SIZE;
+    let text_at = iv_at + iv_long;
     let tag_at = tag_place(text_at, n);
+    let end_at = tag_at + tag_size(mode);
     (read16(r, 0) == RECORD_FORMAT)
         & (read8(r, 3) == 0)
         & (read16(r, 8) == NAME_AT)
         & (1 <= k)
         & (read16(r, 12) == iv_at)
-        & (read16(r, 14) == IV_SIZE)
+        & (read16(r, 14) == iv_long)
         & (read32(r, 16) == text_at)
         & (read32(r, 20) == tag_at)
-        & (r.len() == tag_at + TAG_SIZE)
+        & (r.len() == end_at)
 }
 
 // Whether a name's length or a plaintext's count passes its maximum.
@@ -81,7 +84,7 @@ pub fn read(r: &[u8]) -> Header
         return Header::BadForm;
     }
     let mode = mode_in(r);
-    if !is_permitted(mode) {
+    if !names_mode(mode) {
         return Header::BadMode;
     }
     let k = read16(r, 10);
@@ -120,8 +123,9 @@ fn header_of(u: u8, k: usize, n: usize) -> [u8; 24]
     requires { ⌜ (k ≤ nameMax) × (n ≤ textMax) ⌝ }
     ensures { λ r. ⌜ r ≡ header u k n ⌝ }
 {
+    let iv_long = iv_size(u);
     let iv_at = NAME_AT + k;
-    let text_at = iv_at + IV_SIZE;
+    let text_at = iv_at + iv_long;
     let tag_at = text_at + n;
     [
         0,
@@ -138,8 +142,8 @@ fn header_of(u: u8, k: usize, n: usize) -> [u8; 24]
         (k % 256) as u8,
         (iv_at / 256 % 256) as u8,
         (iv_at % 256) as u8,
-        0,
-        12,
+        (iv_long / 256 % 256) as u8,
+        (iv_long % 256) as u8,
         (text_at / 16777216 % 256) as u8,
         (text_at / 65536 % 256) as u8,
         (text_at / 256 % 256) as u8,

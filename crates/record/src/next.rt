@@ -3,6 +3,7 @@ use crate::sealing::Ready;
 use crate::sealing::number_of;
 use crate::sealing::test;
 use crate::sealing::write;
+use session::Issued;
 use session::Session;
 use session::advance;
 ghost use mathlib.Core.Path.{_≡_};
@@ -12,6 +13,14 @@ ghost use Rattle.record.specs.Next.{sealNextAnswer};
 pub struct Sealed {
     pub number: u8,
     pub session: Session,
+}
+
+// The IV that a session gave.
+fn iv_of(issued: Issued) -> [u8; 12]
+    ensures { λ r. ⌜ r ≡ issued .iv ⌝ }
+{
+    let iv = issued.iv;
+    iv
 }
 
 // Seals with the next IV of a session by value: sealing's numbers, then 10 where the session is spent.
@@ -27,9 +36,9 @@ pub fn seal_by(
 {
     let issued = advance(s);
     let number = issued.number;
-    let iv = issued.iv;
+    let iv = iv_of(issued);
     let session = issued.session;
-    let r = test(table, name, &iv, aad, plain, out.len());
+    let r = test(table, name, &iv, aad, plain.len(), out.len());
     let Ready::At(at) = r else {
         return Sealed {
             number: number_of(r),

@@ -2,18 +2,17 @@
 use crate::header::Header;
 use crate::header::number_of;
 use crate::header::read;
-use crate::mode::decrypt;
 use crate::sizes::CALLERS_MAX;
-use crate::sizes::IV_SIZE;
 use crate::sizes::NAME_AT;
-use crate::sizes::TAG_SIZE;
 use keytable::Found;
 use keytable::Table;
 use keytable::key_at;
 use keytable::use_at;
+use modes::decrypt;
+use modes::iv_size;
+use modes::tag_size;
 use octets::strings::part;
 ghost use mathlib.Core.Path.{_≡_};
-ghost use mathlib.Core.Bool.{not};
 ghost use mathlib.Core.List.{[], _∷_};
 ghost use Prim.Native.Nat.{_≤_};
 ghost use lib.ListN.{length};
@@ -21,20 +20,22 @@ ghost use Rattle.octets.specs.Lent.{lowest, answer};
 ghost use Rattle.keytable.specs.Row.{keySize};
 ghost use Rattle.record.specs.Read.{readAnswer};
 ghost use Rattle.record.specs.Seal.{callersMax};
-ghost use Rattle.record.specs.Open.{authenticBy, plaintextBy, openAnswer};
+ghost use Rattle.record.specs.Open.{tagTests, plaintextBy, openAnswer};
 
 // Takes a record that was read apart, and decrypts it by a key: 9, or 0 with the plaintext.
 fn open_by(key: &[u8], r: &[u8], mode: u8, k: usize, n: usize, aad: &[u8], out: &mut [u8]) -> u8
     requires { ⌜ (readAnswer (now r) ≡ (0, mode ∷ k ∷ n ∷ [])) × (length (now key) ≡ keySize) × (length (now aad) ≤ callersMax) × (n ≤ length (now out)) ⌝ }
-    ensures { λ x. ⌜ answer (lowest ((9, not (authenticBy (now (key .entry)) (now (r .entry)) (now (aad .entry)))) ∷ [])) (plaintextBy (now (key .entry)) (now (r .entry))) (now (out .entry)) ≡ (x, now (out .exit)) ⌝ }
+    ensures { λ x. ⌜ answer (lowest (tagTests (now (key .entry)) (now (r .entry)) (now (aad .entry)))) (plaintextBy (now (key .entry)) (now (r .entry))) (now (out .entry)) ≡ (x, now (out .exit)) ⌝ }
 {
+    let iv_long = iv_size(mode);
+    let tag_long = tag_size(mode);
     let iv_at = NAME_AT + k;
-    let text_at = iv_at + IV_SIZE;
+    let text_at = iv_at + iv_long;
     let tag_at = text_at + n;
     let front = part(r, 0, iv_at);
-    let iv = part(r, iv_at, IV_SIZE);
+    let iv = part(r, iv_at, iv_long);
     let text = part(r, text_at, n);
-    let tag = part(r, tag_at, TAG_SIZE);
+    let tag = part(r, tag_at, tag_long);
     decrypt(mode, key, iv, front, aad, text, tag, out)
 }
 
@@ -58,7 +59,8 @@ pub fn open(table: &[u8], r: &[u8], aad: &[u8], out: &mut [u8], count: &mut u64)
     let Found::At(at) = keytable::find(table, part(r, NAME_AT, k)) else {
         return 6;
     };
-    if use_at(table, at) != mode {
+    let u = use_at(table, at);
+    if u != mode {
         return 7;
     }
     if open_by(key_at(table, at), r, mode, k, n, aad, out) != 0 {

@@ -2,26 +2,30 @@
 use crate::header::front_of;
 use crate::header::passes_maximum;
 use crate::header::put_both;
-use crate::mode::encrypt;
-use crate::mode::is_permitted;
 use crate::sizes::CALLERS_MAX;
-use crate::sizes::IV_SIZE;
 use crate::sizes::NAME_AT;
-use crate::sizes::TAG_SIZE;
 use keytable::Found;
 use keytable::Table;
 use keytable::key_at;
 use keytable::use_at;
+use modes::encrypt;
+use modes::iv_size;
+use modes::names_mode;
+use modes::tag_size;
 use octets::strings::part;
 ghost use mathlib.Core.Path.{_≡_};
+ghost use mathlib.Core.Bool.{true};
 ghost use mathlib.Core.Option.{some};
 ghost use Prim.Native.Nat.{_≤_};
 ghost use lib.ListN.{length};
 ghost use Rattle.octets.specs.Lent.{over};
 ghost use Rattle.keytable.specs.Row.{nameMax, keySize};
-ghost use Rattle.keytable.specs.Table.{rowFor, rowAt};
+ghost use Rattle.keytable.specs.Table.{dataRow, rowAt};
+ghost use Rattle.keytable.specs.Calls.{useIn};
+ghost use Rattle.keytable.specs.Find.{rowFound};
 ghost use Rattle.modes.specs.Calls.{textMax};
-ghost use Rattle.record.specs.Record.{modeOf, endAt};
+ghost use Rattle.modes.specs.Modes.{modeOf};
+ghost use Rattle.record.specs.Record.{endAt};
 ghost use Rattle.record.specs.Seal.{callersMax, recordOf, recordBy, readyNumber, readyRow, readyAnswer, sealAnswer};
 
 // What the tests of sealing find: the place of the name's row, or the lowest number that applies.
@@ -32,44 +36,50 @@ pub(crate) enum Ready {
 
 // Writes the record of a use and a key.
 fn fill(u: u8, key: &[u8], name: &[u8], iv: &[u8], aad: &[u8], plain: &[u8], out: &mut [u8])
-    requires { ⌜ (length (now key) ≡ keySize) × (length (now name) ≤ nameMax) × (length (now iv) ≡ modeOf u .ivSize) × (length (now aad) ≤ callersMax) × (length (now plain) ≤ textMax) × (endAt (modeOf u) (length (now name)) (length (now plain)) ≤ length (now out)) ⌝ }
+    requires { ⌜ (length (now key) ≡ keySize) × (length (now name) ≤ nameMax) × (length (now iv) ≡ modeOf u .ivSize) × (modeOf u .permits (length (now plain)) ≡ true) × (length (now aad) ≤ callersMax) × (length (now plain) ≤ textMax) × (endAt (modeOf u) (length (now name)) (length (now plain)) ≤ length (now out)) ⌝ }
     ensures { λ _. ⌜ now (out .exit) ≡ over (recordOf u (now (key .entry)) (now (name .entry)) (now (iv .entry)) (now (aad .entry)) (now (plain .entry))) (now (out .entry)) ⌝ }
 {
     let room = front_of(u, name, plain.len());
     let iv_at = NAME_AT + name.len();
-    let text_at = iv_at + IV_SIZE;
+    let text_at = iv_at + iv.len();
     let front = part(&room, 0, iv_at);
     put_both(front, iv, out);
     encrypt(u, key, iv, front, aad, plain, &mut out[text_at..]);
 }
 
-// Every test of sealing into so much room.
-pub(crate) fn test(
-    table: &[u8],
-    name: &[u8],
-    iv: &[u8],
-    aad: &[u8],
-    plain: &[u8],
-    room: usize,
-) -> Ready
-    ensures { λ r. ⌜ readyAnswer (now (table .entry)) (now (name .entry)) (now (iv .entry)) (now (aad .entry)) (now (plain .entry)) room ≡ (readyNumber r, readyRow (now (table .entry)) r) ⌝ }
+// The use of the row that a lookup found, 0 where there is none.
+fn use_found(table: &[u8], f: Found) -> u8
+    ensures { λ u. ⌜ u ≡ useIn (rowFound (now (table .entry)) f) ⌝ }
+{
+    let Found::At(at) = f else {
+        return 0;
+    };
+    use_at(table, at)
+}
+
+// Every test of sealing n bytes into so much room.
+pub(crate) fn test(table: &[u8], name: &[u8], iv: &[u8], aad: &[u8], n: usize, room: usize) -> Ready
+    ensures { λ r. ⌜ readyAnswer (now (table .entry)) (now (name .entry)) (now (iv .entry)) (now (aad .entry)) n room ≡ (readyNumber r, readyRow (now (table .entry)) r) ⌝ }
 {
     let Table::Rows(_) = keytable::check(table) else {
         return Ready::Refused(1);
     };
-    if (name.len() == 0) | (iv.len() != IV_SIZE) {
+    let found = keytable::find(table, name);
+    let u = use_found(table, found);
+    let iv_long = iv_size(u);
+    if (name.len() == 0) | (iv.len() != iv_long) {
         return Ready::Refused(2);
     }
-    if passes_maximum(name.len(), plain.len()) | (CALLERS_MAX < aad.len()) {
+    if passes_maximum(name.len(), n) | (CALLERS_MAX < aad.len()) {
         return Ready::Refused(4);
     }
-    if room < NAME_AT + name.len() + IV_SIZE + plain.len() + TAG_SIZE {
+    if room < NAME_AT + name.len() + iv_long + n + tag_size(u) {
         return Ready::Refused(5);
     }
-    let Found::At(at) = keytable::find(table, name) else {
+    let Found::At(at) = found else {
         return Ready::Refused(6);
     };
-    if !is_permitted(use_at(table, at)) {
+    if !names_mode(u) {
         return Ready::Refused(7);
     }
     Ready::At(at)
@@ -95,8 +105,8 @@ pub(crate) fn write(
     plain: &[u8],
     out: &mut [u8],
 )
-    requires { ⌜ readyAnswer (now table) (now name) (now iv) (now aad) (now plain) (length (now out)) ≡ (0, some (rowAt (now table) at)) ⌝ }
-    ensures { λ _. ⌜ now (out .exit) ≡ over (recordBy (rowFor (now (table .entry)) (now (name .entry))) (now (name .entry)) (now (iv .entry)) (now (aad .entry)) (now (plain .entry))) (now (out .entry)) ⌝ }
+    requires { ⌜ readyAnswer (now table) (now name) (now iv) (now aad) (length (now plain)) (length (now out)) ≡ (0, some (rowAt (now table) at)) ⌝ }
+    ensures { λ _. ⌜ now (out .exit) ≡ over (recordBy (dataRow (now (table .entry)) (now (name .entry))) (now (name .entry)) (now (iv .entry)) (now (aad .entry)) (now (plain .entry))) (now (out .entry)) ⌝ }
 {
     let u = use_at(table, at);
     fill(u, key_at(table, at), name, iv, aad, plain, out);
@@ -106,7 +116,7 @@ pub(crate) fn write(
 pub fn seal(table: &[u8], name: &[u8], iv: &[u8], aad: &[u8], plain: &[u8], out: &mut [u8]) -> u8
     ensures { λ r. ⌜ sealAnswer (now (table .entry)) (now (name .entry)) (now (iv .entry)) (now (aad .entry)) (now (plain .entry)) (now (out .entry)) ≡ (r, now (out .exit)) ⌝ }
 {
-    let r = test(table, name, iv, aad, plain, out.len());
+    let r = test(table, name, iv, aad, plain.len(), out.len());
     let Ready::At(at) = r else {
         return number_of(r);
     };

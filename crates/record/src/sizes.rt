@@ -8,8 +8,3 @@ pub(crate) const NAME_MAX: usize = 32;
 pub(crate) const TEXT_MAX: usize = 1048576;
 
 pub(crate) const CALLERS_MAX: usize = 4096;
-
-// Both modes' lengths of IV and tag.
-pub(crate) const IV_SIZE: usize = 12;
-
-pub(crate) const TAG_SIZE: usize = 16;

@@ -10,14 +10,15 @@ use lib.Dec.{eqb, ltb}
 use lib.ListN.{length}
 use Rattle.octets.specs.Blocks.{cut}
 use Rattle.modes.specs.Ccm.{flags, firstBlock, dataBlocks}
-use Rattle.modes.proofs.Laws.{lengths-25-3}
+use Rattle.modes.proofs.Laws.{lengths-25-3, modes-permit}
 use Rattle.aes_field.specs.Field.{xtime, times, inverse, affine, sbox}
 use Rattle.keytable.specs.Row.{nameMax}
-use Rattle.keytable.specs.Table.{tableOk, rowFor}
+use Rattle.keytable.specs.Table.{tableOk, dataRow}
 use Rattle.keytable.proofs.Laws.{empty-table}
 use Rattle.session.proofs.Laws.{last-two, last-two-held}
 use Rattle.descriptors.proofs.Laws.{label-claim}
-use Rattle.record.specs.Record.{permitted, modeIn, countIn, nameSize, nameIn, header}
+use Rattle.modes.specs.Modes.{namesMode}
+use Rattle.record.specs.Record.{modeIn, countIn, nameSize, nameIn, header}
 use Rattle.record.specs.Read.{passes}
 use Rattle.record.specs.Seal.{callersMax}
 use Rattle.record.proofs.Numbers.{open-four}
@@ -56,7 +57,7 @@ greatest-record = (refl, refl)
 
 one-byte-more : OneByteMore
 one-byte-more t rest a out count u k good mode-ok named short whole =
-    open-four (tableOk t) (rowFor t (nameIn r)) r a out count good (kept-layout r kept) (ap permitted mode-is ∙ mode-ok) too-long
+    open-four (tableOk t) (dataRow t (nameIn r)) r a out count good (kept-layout r kept) (ap namesMode mode-is ∙ mode-ok) too-long
   where
     r : List ℕ
     r = header u k 1048577 ++ rest
@@ -68,7 +69,7 @@ one-byte-more t rest a out count u k good mode-ok named short whole =
     mode-is = header-mode u k 1048577 rest short few
 
     kept : Kept r
-    kept = header-kept u k 1048577 rest short few named whole
+    kept = header-kept u k 1048577 rest short few named (modes-permit u 1048577) whole
 
     too-long : (passes (nameSize r) (countIn r) || ltb callersMax (length a)) ≡ true
     too-long = rw (header-size u k 1048577 rest short few, header-count u k 1048577 rest short few, le-ltb nameMax k short)

@@ -14,7 +14,8 @@ use Rattle.keytable.specs.Table.{tableOk}
 use Rattle.keytable.specs.Laws.{EmptyTable}
 use Rattle.session.specs.Laws.{LastTwo, LastTwoHeld}
 use Rattle.descriptors.specs.Laws.{LabelClaim}
-use Rattle.record.specs.Record.{permitted, modeOf, nameAt, ivAt, textAt, tagAt, endAt, header}
+use Rattle.modes.specs.Modes.{namesMode, modeOf}
+use Rattle.record.specs.Record.{nameAt, ivAt, textAt, tagAt, endAt, header}
 use Rattle.record.specs.Open.{openAnswer}
 
 -- 1. "S-box of 00h is 63h, of 53h EDh."
@@ -71,7 +72,7 @@ SessionEnd = LastTwo × LastTwoHeld
 -- 11. "n=1,048,577 with matching offsets and total: 4.": opening any record of that header and total, in either mode, changes nothing and gives 4
 abbrev pub OneByteMore : Type 0
 OneByteMore =
-    (t rest a out : List ℕ) (count u k : ℕ) → tableOk t ≡ true → permitted u ≡ true → 1 ≤ k → k ≤ 32
+    (t rest a out : List ℕ) (count u k : ℕ) → tableOk t ≡ true → namesMode u ≡ true → 1 ≤ k → k ≤ 32
     → length (header u k 1048577 ++ rest) ≡ endAt (modeOf u) k 1048577
     → openAnswer t (header u k 1048577 ++ rest) a out count ≡ ((4, out), count)
 

@@ -1,4 +1,4 @@
-// CCM and GCM by themselves.
+// CCM and GCM by themselves: mode 1 and mode 2, and the second part of the associated data is empty.
 ghost use mathlib.Core.Path.{_≡_};
 ghost use mathlib.Core.List.{[]};
 ghost use Rattle.modes.specs.Ccm.{ccm};
@@ -15,7 +15,7 @@ pub extern "C" fn spadeswirl_ccm_encrypt(
 ) -> u8
     ensures { λ r. ⌜ encryptAnswer ccm (now (key .entry)) (now (iv .entry)) (now (aad .entry)) [] (now (plain .entry)) (now (out .entry)) ≡ (r, now (out .exit)) ⌝ }
 {
-    modes::ccm::encrypt(key, iv, aad, plain, out)
+    modes::encrypt(1, key, iv, aad, &aad[..0], plain, out)
 }
 
 #[no_mangle]
@@ -29,7 +29,7 @@ pub extern "C" fn spadeswirl_ccm_decrypt(
 ) -> u8
     ensures { λ r. ⌜ decryptAnswer ccm (now (key .entry)) (now (iv .entry)) (now (aad .entry)) [] (now (text .entry)) (now (tag .entry)) (now (out .entry)) ≡ (r, now (out .exit)) ⌝ }
 {
-    modes::ccm::decrypt(key, iv, aad, text, tag, out)
+    modes::decrypt(1, key, iv, aad, &aad[..0], text, tag, out)
 }
 
 #[no_mangle]
@@ -42,7 +42,7 @@ pub extern "C" fn spadeswirl_gcm_encrypt(
 ) -> u8
     ensures { λ r. ⌜ encryptAnswer gcm (now (key .entry)) (now (iv .entry)) (now (aad .entry)) [] (now (plain .entry)) (now (out .entry)) ≡ (r, now (out .exit)) ⌝ }
 {
-    modes::gcm::encrypt(key, iv, aad, plain, out)
+    modes::encrypt(2, key, iv, aad, &aad[..0], plain, out)
 }
 
 #[no_mangle]
@@ -56,5 +56,5 @@ pub extern "C" fn spadeswirl_gcm_decrypt(
 ) -> u8
     ensures { λ r. ⌜ decryptAnswer gcm (now (key .entry)) (now (iv .entry)) (now (aad .entry)) [] (now (text .entry)) (now (tag .entry)) (now (out .entry)) ≡ (r, now (out .exit)) ⌝ }
 {
-    modes::gcm::decrypt(key, iv, aad, text, tag, out)
+    modes::decrypt(2, key, iv, aad, &aad[..0], text, tag, out)
 }

@@ -45,7 +45,7 @@ returns c =
     let p1 = p2 .before .before in
     let t = p1 .before .before in
     let b = t .before in
-    decrypt-ran (start b .args .is-gcm)
+    decrypt-ran (start b .args .u)
     (held-word (key b .read-word .ensures) (every-at (rights b) 0 (t .if1 .taken)) (p1 .part .ensures))
     (held-word (iv b .read-word2 .ensures) (every-at (rights b) 1 (t .if1 .taken)) (p2 .part2 .ensures))
     (held-word (aad b .read-word3 .ensures) (every-at (rights b) 2 (t .if1 .taken)) (p3 .part3 .ensures))
@@ -57,7 +57,7 @@ returns-2 : tie.Need-returns-2
 returns-2 c =
     let e = c .before in
     let b = e .before in
-    decrypt-broken (start b .args .is-gcm) (key b .read-word .ensures) (iv b .read-word2 .ensures) (aad b .read-word3 .ensures)
+    decrypt-broken (start b .args .u) (key b .read-word .ensures) (iv b .read-word2 .ensures) (aad b .read-word3 .ensures)
     (text b .read-word4 .ensures) (tag b .read-word5 .ensures) (e .if1 .left) (c .broken-case .ensures)
 
 pub decrypt-case-spec : {M : Type 1} → statement M

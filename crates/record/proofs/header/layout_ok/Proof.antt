@@ -1,16 +1,37 @@
 -- `record::header::layout_ok` meets its contract: its result is made of what its callees ensure.
 -- Assumes nothing.
+use native.Mathlib.Omega.{arith}
 use borrow.Author.Needs.{needs}
-use Rattle.record.specs.Record.{layoutOk, modeIn}
-use Rattle.record.proofs.Numbers.{iv-size, tag-size}
+use Rattle.record.proofs.Numbers.{iv-small, tag-small}
+use Rattle.record.proofs.Parts.{layout-tested}
 use Rattle.record.proofs.header.layout_ok.Statement.{statement}
 use Rattle.record.proofs.header.layout_ok.Tie as tie
 
+add-text-at : tie.Need-add-text-at
+add-text-at c = omega (arith, iv-small (c .before .before .before .mode-in .result), c .before .before .iv-size .ensures)
+
+tag-place-requires : tie.Need-tag-place-requires
+tag-place-requires c κs = omega (arith, iv-small (c .before .before .before .mode-in .result), c .before .before .iv-size .ensures)
+
+add-end-at : tie.Need-add-end-at
+add-end-at c = omega (arith, tag-small (c .before .before .before .before .before .mode-in .result), c .tag-size .ensures)
+
 returns : tie.Need-returns
-unfolding layoutOk
 returns c =
-    let r = c .before .before .before .before .before .before .before .before .before .before .before .args .r .now in
-    cc (iv-size (modeIn r), tag-size (modeIn r))
+    let f = c .before in
+    let e = f .before in
+    let d = e .before in
+    let n = d .before in
+    let z = n .before in
+    let o = z .before in
+    let g = o .before in
+    let t = g .before in
+    let k = t .before in
+    let m = k .before in
+    let v = m .before in
+    layout-tested _ _ _ _ _ _ _ _ _ _ _ _ _ _
+    (v .before .mode-in .ensures) (v .iv-size .ensures) (m .read32 .ensures .0) (k .read16 .ensures .0) (t .tag-place .ensures .0) (g .tag-size .ensures)
+    (o .read162 .ensures .0) (z .read8 .ensures .0) (n .read163 .ensures .0) (d .read164 .ensures .0) (e .read165 .ensures .0) (f .read322 .ensures .0) (c .read323 .ensures .0)
 
 pub layout-ok-spec : {M : Type 1} → statement M
 layout-ok-spec =
@@ -18,15 +39,18 @@ layout-ok-spec =
     (tie.spec
     (λ c κs. search needs)
     (λ c κs. search needs)
-    (λ c. search needs)
-    (λ c. search needs)
-    (λ c κs. search needs)
-    (λ c κs. search needs)
-    (λ c κs. search needs)
-    (λ c κs. search needs)
-    (λ c κs. search needs)
-    (λ c κs. search needs)
     (λ c κs. search needs)
     (λ c κs. search needs)
     (λ c. search needs)
+    add-text-at
+    tag-place-requires
+    (λ c κs. search needs)
+    add-end-at
+    (λ c κs. search needs)
+    (λ c κs. search needs)
+    (λ c κs. search needs)
+    (λ c κs. search needs)
+    (λ c κs. search needs)
+    (λ c κs. search needs)
+    (λ c κs. search needs)
     returns)

@@ -5,7 +5,8 @@ use mathlib.Core.Bool.{true, false}
 use mathlib.Core.List.{List, [], _∷_}
 use Prim.Native.Nat.{ℕ}
 use borrow.Author.Tests.{not-true, not-false}
-use Rattle.record.specs.Record.{permitted, modeIn, countIn, nameSize, layoutOk}
+use Rattle.modes.specs.Modes.{namesMode}
+use Rattle.record.specs.Record.{modeIn, countIn, nameSize, layoutOk}
 use Rattle.record.specs.Read.{passes}
 use Rattle.record.proofs.Reading.{read-two, read-three, read-four, read-zero}
 use borrow.Author.Needs.{needs}
@@ -16,10 +17,10 @@ use Rattle.record.proofs.header.read.Tie as tie
 layout-good : (c : tie.Else1) → layoutOk (c .before .before .before .args .r .now) ≡ true
 layout-good c = sym (c .before .layout-ok .ensures) ∙ not-false (c .before .layout-ok .result) (c .if1 .left)
 
-mode-good : (c : tie.Else2) → permitted (modeIn (c .before .before .before .before .before .before .args .r .now)) ≡ true
+mode-good : (c : tie.Else2) → namesMode (modeIn (c .before .before .before .before .before .before .args .r .now)) ≡ true
 mode-good c =
     let m = c .before .before .mode-in in
-    ap permitted (sym (m .ensures)) ∙ sym (c .before .is-permitted .ensures) ∙ not-false (c .before .is-permitted .result) (c .if2 .left)
+    ap namesMode (sym (m .ensures)) ∙ sym (c .before .names-mode .ensures) ∙ not-false (c .before .names-mode .result) (c .if2 .left)
 
 returns : tie.Need-returns
 returns c =
@@ -30,7 +31,7 @@ returns-2 : tie.Need-returns-2
 returns-2 c =
     let r = c .before .before .before .before .before .before .args .r .now in
     let m = c .before .before .mode-in in
-    let bad : permitted (modeIn r) ≡ false = ap permitted (sym (m .ensures)) ∙ sym (c .before .is-permitted .ensures) ∙ not-true (c .before .is-permitted .result) (c .if2 .taken) in
+    let bad : namesMode (modeIn r) ≡ false = ap namesMode (sym (m .ensures)) ∙ sym (c .before .names-mode .ensures) ∙ not-true (c .before .names-mode .result) (c .if2 .taken) in
     sym (read-three r (layout-good (c .before .before .before)) bad)
 
 returns-3 : tie.Need-returns-3

@@ -15,7 +15,7 @@ use denote.Enum.Declared.{tagOf, declared}
 use Rattle.octets.specs.Tests.{partOf}
 use Rattle.octets.proofs.Places.{its-bytes}
 use Rattle.keytable.specs.Row.{keySize, useOf, keyOf}
-use Rattle.keytable.specs.Table.{tableOk, rowFor, rowAt}
+use Rattle.keytable.specs.Table.{tableOk, dataRow, rowAt}
 use Rattle.keytable.proofs.Calls.{rows-accepted, broken-refused}
 use Rattle.record.specs.Record.{modeIn, countIn, nameSize, nameIn}
 use Rattle.record.specs.Read.{passes, headerSays}
@@ -96,16 +96,16 @@ returns-5 c =
     let is = is-read (known past) in
     let ok = table-good (checked (known past)) in
     open-six _ _ _ _ _ _ ok (is .layout) (is .mode-ok) (long (known past) false (le-ltb _ _ (past .before .if1 .left))) (roomy past)
-    (ap (rowFor _) (sym (name-is at-part)) ∙ no-row _ _ (at-find .find .result) ok (at-find .find .ensures) (c .match3 .keys2))
+    (ap (dataRow _) (sym (name-is at-part)) ∙ no-row _ _ (at-find .find .result) ok (at-find .find .ensures) (c .match3 .keys2))
 
 -- the row that was found is that of the record's name
 found : (c : tie.After-at) → let a = start (checked (known (c .before .before .before .before))) .args in
-    (rowFor (a .table .now) (nameIn (a .r .now)) ≡ some (rowAt (a .table .now) (c .at .given .0 .0))) × (length (keyOf (rowAt (a .table .now) (c .at .given .0 .0))) ≡ keySize)
+    (dataRow (a .table .now) (nameIn (a .r .now)) ≡ some (rowAt (a .table .now) (c .at .given .0 .0))) × (length (keyOf (rowAt (a .table .now) (c .at .given .0 .0))) ≡ keySize)
 found c =
     let at-find = c .before .before in
     let at-part = at-find .before in
     let ok = table-good (checked (known (at-part .before))) in (
-      ap (rowFor _) (sym (name-is at-part)) ∙ the-row _ _ _ ok (at-find .find .ensures) _ (c .at .given .1),
+      ap (dataRow _) (sym (name-is at-part)) ∙ the-row _ _ _ ok (at-find .find .ensures) _ (c .at .given .1),
       row-key _ _ _ ok (at-find .find .ensures) _ (c .at .given .1),
     )
 

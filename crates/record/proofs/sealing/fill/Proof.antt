@@ -9,7 +9,6 @@ use lib.ListN.{length}
 use Rattle.octets.specs.Lent.{over}
 use Rattle.octets.proofs.Lent.{length-over}
 use Rattle.record.specs.Record.{front}
-use Rattle.record.proofs.Numbers.{iv-size}
 use Rattle.record.proofs.Written.{length-front}
 use Rattle.record.proofs.Filled.{front-cut, filled}
 use Rattle.record.proofs.sealing.fill.Statement.{statement}
@@ -28,7 +27,7 @@ put-both-requires : tie.Need-put-both-requires
 put-both-requires c κs =
     let start = c .before .before .before .before .before .before .before .before .before .before in
     let a = start .args in
-    omega (arith, start .pre .2, iv-size (a .u), start .pre .5, ap length (is-front (c .before)), length-front (a .u) (a .name .now) (length (a .plain .now)))
+    omega (arith, start .pre .2, start .pre .6, ap length (is-front (c .before)), length-front (a .u) (a .name .now) (length (a .plain .now)))
 
 sub-encrypt : tie.Need-sub-encrypt
 sub-encrypt c =
@@ -36,7 +35,7 @@ sub-encrypt c =
     let at-part = written .before .before in
     let start = at-part .before .before .before .before .before .before .before .before .before in
     let a = start .args in
-    omega (arith, ap length (written .put-both .ensures), length-over (at-part .part .result .now ++ a .iv .now) (a .out .now), start .pre .5, iv-size (a .u))
+    omega (arith, ap length (written .put-both .ensures), length-over (at-part .part .result .now ++ a .iv .now) (a .out .now), start .pre .6)
 
 part-encrypt-start : tie.Need-part-encrypt-start
 part-encrypt-start c = sub-encrypt c
@@ -49,7 +48,7 @@ returns c =
     let start = at-part .before .before .before .before .before .before .before .before .before in
     let a = start .args in
     let F = is-front at-part in
-    filled (a .u) (a .key .now) (a .name .now) (a .iv .now) (a .aad .now) (a .plain .now) (a .out .now) (start .pre .0) (start .pre .1) (start .pre .2) (start .pre .3) (start .pre .4) (start .pre .5)
+    filled (a .u) (a .key .now) (a .name .now) (a .iv .now) (a .aad .now) (a .plain .now) (a .out .now) (start .pre .0) (start .pre .1) (start .pre .2) (start .pre .3) (start .pre .4) (start .pre .5) (start .pre .6)
     _ _ _ (written .put-both .ensures ∙ ap (λ (l : List ℕ). over (l ++ a .iv .now) (a .out .now)) F) (rw F at (at-call .encrypt .ensures))
 
 pub fill-spec : {M : Type 1} → statement M

@@ -16,7 +16,7 @@ start c = c .before .before .before .before .before .before .before
 -- what the tests found, once it is known which case it is
 is : (c : tie.After-test) (r : Ready) → c .test .result ≡ r →
     let a = start c .args in
-    readyAnswer (a .table .now) (a .name .now) (a .iv .now) (a .aad .now) (a .plain .now) (length (a .out .now)) ≡ (readyNumber r, readyRow (a .table .now) r)
+    readyAnswer (a .table .now) (a .name .now) (a .iv .now) (a .aad .now) (length (a .plain .now)) (length (a .out .now)) ≡ (readyNumber r, readyRow (a .table .now) r)
 is c r e = c .test .ensures ∙ ap (λ (x : Ready). (readyNumber x, readyRow (start c .args .table .now) x)) e
 
 returns : tie.Need-returns

@@ -8,11 +8,12 @@ use lib.ListN.{length}
 use borrow.Author.Needs.{needs}
 use Rattle.octets.specs.Lent.{over}
 use Rattle.octets.proofs.Places.{its-bytes}
-use Rattle.keytable.specs.Table.{tableOk, rowFor, rowAt}
+use Rattle.keytable.specs.Row.{useOf}
+use Rattle.keytable.specs.Table.{tableOk, dataRow, rowAt}
 use Rattle.keytable.proofs.Laws.{rowFor-good}
 use Rattle.record.specs.Seal.{recordOf, recordBy}
-use Rattle.record.proofs.Sealed.{Sealable}
-use Rattle.record.proofs.Ready.{ready-row, ready-able}
+use Rattle.record.specs.Laws.{InRange}
+use Rattle.record.proofs.Ready.{ready-row, ready-able, ready-same}
 use Rattle.record.proofs.sealing.write.Statement.{statement}
 use Rattle.record.proofs.sealing.write.Tie as tie
 
@@ -20,25 +21,27 @@ abbrev start : tie.After-use-at → tie.Start
 start c = c .before .before .before .before .before .before .before
 
 able : (c : tie.After-use-at) → let a = start c .args in
-    Sealable (tableOk (a .table .now)) (rowAt (a .table .now) (a .at)) (a .name .now) (a .iv .now) (a .aad .now) (a .plain .now) (length (a .out .now))
+    InRange (tableOk (a .table .now)) (some (rowAt (a .table .now) (a .at))) (a .name .now) (a .iv .now) (a .aad .now) (length (a .plain .now)) (length (a .out .now))
 able c = ready-able _ _ _ _ _ _ _ _ (start c .pre)
 
-found : (c : tie.After-use-at) → let a = start c .args in rowFor (a .table .now) (a .name .now) ≡ some (rowAt (a .table .now) (a .at))
+found : (c : tie.After-use-at) → let a = start c .args in dataRow (a .table .now) (a .name .now) ≡ some (rowAt (a .table .now) (a .at))
 found c = ready-row _ _ _ _ _ _ _ _ (start c .pre)
 
 fill-requires : tie.Need-fill-requires
+unfolding able
 fill-requires c κs =
     let at-key = c .before in
     let at-use = at-key .before in
     let a = start at-use .args in
     let h = able at-use in
-    let use-is = at-use .use-at .ensures in (
+    let use-is = at-use .use-at .ensures ∙ ap useOf (sym (ready-same _ _ _ _ _ _ _ _ (start at-use .pre))) in (
       ap length (its-bytes (at-key .key-at .ensures)) ∙ rowFor-good (a .table .now) (a .name .now) _ (h .accepted) (found at-use) .key-size,
-      h .short,
-      rw use-is (h .iv-long),
-      h .little,
-      h .few,
-      rw use-is (h .fits),
+      h .name-fits,
+      rw use-is (h .iv-size),
+      rw use-is (h .permitted),
+      h .data-fits,
+      h .text-fits,
+      rw use-is (h .room-fits),
     )
 
 returns : tie.Need-returns
