@@ -16,7 +16,8 @@ use Rattle.keytable.specs.Calls.{tableNumber, tableSays, tableAnswer, fi
 use Rattle.keytable.specs.Find.{foundSays, placeOf, foundAnswer, rowFound}
 use Rattle.keytable.specs.declared.Found.{Found}
 use Rattle.keytable.specs.declared.Found.the-variants.{At, Nothing, Broken}
-use Rattle.keytable.specs.Laws.{NamedWhole, OtherLength, OneRow, AtMostOne, FindsRow, FoundRow, FindsExactly, ElseNothing, FindsBroken, RowForGood, OtherRows, HoldersRow, EmptyTable, CheckTestsRise, UseTestsRise, CheckUnique, FindUnique, FindUseUnique, RowAtUnique, UseAtUnique, KeyAtUnique}
+use Rattle.keytable.specs.Laws.{NamedWhole, OtherLength, OneRow, AtMostOne, FindsRow, FoundRow, FindsExactly, ElseNothing, FindsBroken, RowForGood, OtherRows}
+use Rattle.keytable.specs.Laws.{HoldersRow, EmptyTable, CheckTestsRise, UseTestsRise, CheckUnique, FindUnique, FindUseUnique, RowAtUnique, UseAtUnique, KeyAtUnique}
 use Rattle.octets.proofs.Tests.{all-at, length-part, part-short}
 use Rattle.keytable.proofs.Accepted.{head-total, accepted-head, accepted-rows, accepted-distinct, length-rowsOf, rowsOf-at, name-short}
 use Rattle.keytable.proofs.Lookup.{named-whole, named-own, distinct-one, distinct-holders, asList, asList-injective, lookup-one, placeOf-row, placeOf-else, placeOf-broken, broken-head}
