@@ -20,7 +20,8 @@ use Rattle.keypage.specs.Page.{keyAt, algorithmIn, formatIn, keyLength, 
 use Rattle.keypage.specs.KeyPart.{plainFormat, referenceFormat, wrappedFormat, kekUse, identifierAt, identifierSize, identifierOf, wrappedOf}
 use Rattle.keypage.specs.Read.{readAnswer}
 use Rattle.keypage.specs.Load.{keyIn, keyLoaded, loadAnswer}
-use Rattle.keypage.specs.Laws.{Readable, ReadsExactly, Loads, LoadsPlain, LoadsReference, LoadsWrapped, NoRowSix, LoadOtherRows, ReadTestsRise, PartTestsRise, LoadTestsRise, ReadUnique, LoadUnique}
+use Rattle.keypage.specs.Laws.{Readable, ReadsExactly, Loads, LoadsPlain, LoadsReference, LoadsWrapped, NoRowSix}
+use Rattle.keypage.specs.Laws.{LoadOtherRows, ReadTestsRise, PartTestsRise, LoadTestsRise, ReadUnique, LoadUnique}
 use Rattle.keypage.proofs.Permitted.{read-passed, passed-read, passed-readable, readable-passed, read-done, read-zero, read-part}
 use Rattle.keypage.proofs.Laid.{known, known-needs, plain-size}
 use Rattle.keypage.proofs.Loaded.{partNumber, part-row, part-none, part-use, reference-passed, wrapped-size, wrapped-answer, load-six, load-told, load-written, load-key, key-loads}

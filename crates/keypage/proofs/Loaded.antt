@@ -59,14 +59,14 @@ module _ (row : List ℕ) (algorithm : ℕ) (s : List ℕ) where
 
 -- ---- the whole call, by a format, the row found for it and the key it then gives
 
-abbrev pub foundIn : List ℕ → List ℕ → ℕ → Option (List ℕ)
-foundIn t p f = rowNamed t f (keyPart p)
+abbrev pub rowGiven : List ℕ → List ℕ → ℕ → Option (List ℕ)
+rowGiven t p f = rowNamed t f (keyPart p)
 
 abbrev pub numberIn : List ℕ → List ℕ → ℕ → ℕ
-numberIn t p f = partNumber (foundIn t p f) (algorithmIn p) f (keyPart p)
+numberIn t p f = partNumber (rowGiven t p f) (algorithmIn p) f (keyPart p)
 
 abbrev pub keyGiven : List ℕ → List ℕ → ℕ → List ℕ
-keyGiven t p f = keyLoaded (foundIn t p f) f (keyPart p)
+keyGiven t p f = keyLoaded (rowGiven t p f) f (keyPart p)
 
 load-number : (ok : Bool) (row : Option (List ℕ)) (p : List ℕ) (room : ℕ) → ok ≡ true → ReadPassed p → keySize ≤ room
     → loadNumber ok row p room ≡ partNumber row (algorithmIn p) (formatIn p) (keyPart p)
@@ -74,8 +74,8 @@ unfolding loadNumber
 load-number ok row p room accepted passed fits = rw (accepted, passed .whole, passed .permitted, passed .short, le-ltb room keySize fits)
 
 module _ (t p out fields : List ℕ) (given : Given t p out) where
-  left : loadNumber (tableOk t) (foundIn t p (formatIn p)) p (length out) ≡ numberIn t p (formatIn p)
-  left = load-number (tableOk t) (foundIn t p (formatIn p)) p (length out) (given .accepted) (read-passed p (given .readable)) (given .room)
+  left : loadNumber (tableOk t) (rowGiven t p (formatIn p)) p (length out) ≡ numberIn t p (formatIn p)
+  left = load-number (tableOk t) (rowGiven t p (formatIn p)) p (length out) (given .accepted) (read-passed p (given .readable)) (given .room)
 
   module _ (f : ℕ) (is : formatIn p ≡ f) where
     pub load-zero : numberIn t p f ≡ 0 → loadAnswer t p out fields ≡ ((0, over (keyGiven t p f) out), fieldsOf p)

@@ -12,7 +12,8 @@ use Rattle.octets.proofs.Tests.{or-left, or-right, every-at}
 use Rattle.descriptors.specs.Tested.{Answer}
 use Rattle.descriptors.proofs.Answers.{list-accepted, number-ok}
 use Rattle.descriptors.proofs.Laws.{accepts-exactly}
-use Rattle.keypage.specs.Page.{pageCode, pageMax, keyAt, scopeIn, reservedIn, encryptionIn, decryptionIn, algorithmIn, formatIn, keyLength, keyPart, listIn, pageStrict, pageListOk, pageListCount, pageTests, pageOk, permittedTests, fieldsOk, fieldsOf}
+use Rattle.keypage.specs.Page.{pageCode, pageMax, keyAt, scopeIn, reservedIn, encryptionIn, decryptionIn, algorithmIn, formatIn, keyLength}
+use Rattle.keypage.specs.Page.{keyPart, listIn, pageStrict, pageListOk, pageListCount, pageTests, pageOk, permittedTests, fieldsOk, fieldsOf}
 use Rattle.keypage.specs.KeyPart.{partBroken, partRefused, partLong}
 use Rattle.keypage.specs.Read.{broken, refused, long, readNumber, readAnswer}
 use Rattle.keypage.specs.Laws.{Laid, Readable}

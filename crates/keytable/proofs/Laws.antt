@@ -10,13 +10,14 @@ use borrow.Author.Tests.{ne-eqb}
 use lib.ListN.{length}
 use Rattle.octets.proofs.Unique.{unique, unique-by}
 use Rattle.octets.specs.Tests.{all}
-use Rattle.keytable.specs.Row.{rowSize, nameMax, nameAt, keyAt, keySize, nameLength, nameOf, useOf, keyIn, named, rowOk}
-use Rattle.keytable.specs.Table.{rowPlace, headOk, tableOk, rows, rowsOf, rowCount, distinct, holders, rowFor, rowAt, rowIn}
+use Rattle.keytable.specs.Row.{rowSize, nameMax, nameAt, keyAt, keySize, nameLength, nameOf, useOf, placedKey, named, rowOk}
+use Rattle.keytable.specs.Table.{rowPlace, headOk, tableOk, rows, rowsOf, rowCount, distinct, holders, rowFor, rowAt, placedRow}
 use Rattle.keytable.specs.Calls.{tableNumber, tableSays, tableAnswer, findUse}
 use Rattle.keytable.specs.Find.{foundSays, placeOf, foundAnswer, rowFound}
 use Rattle.keytable.specs.declared.Found.{Found}
 use Rattle.keytable.specs.declared.Found.the-variants.{At, Nothing, Broken}
-use Rattle.keytable.specs.Laws.{NamedWhole, OtherLength, OneRow, AtMostOne, FindsRow, FoundRow, FindsExactly, ElseNothing, FindsBroken, RowForGood, OtherRows, HoldersRow, EmptyTable, CheckTestsRise, UseTestsRise, CheckUnique, FindUnique, FindUseUnique, RowAtUnique, UseAtUnique, KeyAtUnique}
+use Rattle.keytable.specs.Laws.{NamedWhole, OtherLength, OneRow, AtMostOne, FindsRow, FoundRow, FindsExactly, ElseNothing, FindsBroken, RowForGood, OtherRows}
+use Rattle.keytable.specs.Laws.{HoldersRow, EmptyTable, CheckTestsRise, UseTestsRise, CheckUnique, FindUnique, FindUseUnique, RowAtUnique, UseAtUnique, KeyAtUnique}
 use Rattle.octets.proofs.Tests.{all-at, length-part, part-short}
 use Rattle.keytable.proofs.Accepted.{head-total, accepted-head, accepted-rows, accepted-distinct, length-rowsOf, rowsOf-at, name-short}
 use Rattle.keytable.proofs.Lookup.{named-whole, named-own, distinct-one, distinct-holders, asList, asList-injective, lookup-one, placeOf-row, placeOf-else, placeOf-broken, broken-head}
@@ -153,13 +154,13 @@ pub find-unique : FindUnique
 find-unique t name = unique-by foundSays foundIn foundIn-says (foundAnswer t name)
 
 pub row-at-unique : RowAtUnique
-row-at-unique t at = unique (rowIn t at)
+row-at-unique t at = unique (placedRow t at)
 
 pub use-at-unique : UseAtUnique
 use-at-unique t at = unique (useOf (rowAt t at))
 
 pub key-at-unique : KeyAtUnique
-key-at-unique t at = unique (keyIn (rowIn t at))
+key-at-unique t at = unique (placedKey (placedRow t at))
 
 pub find-use-unique : FindUseUnique
 find-use-unique t name before = unique (findUse t name before)

@@ -10,8 +10,8 @@ use lib.ListN.{length, getD}
 use Rattle.octets.specs.Lowest.{rises}
 use Rattle.octets.specs.Places.{Placed}
 use Rattle.octets.specs.Unique.{UniqueBy, Unique}
-use Rattle.keytable.specs.Row.{rowSize, keySize, nameLength, nameOf, useOf, keyOf, rowOk, named, keyIn}
-use Rattle.keytable.specs.Table.{rowCount, headOk, rowsOf, tableOk, holders, rowFor, rowAt, rowIn}
+use Rattle.keytable.specs.Row.{rowSize, keySize, nameLength, nameOf, useOf, keyOf, rowOk, named, placedKey}
+use Rattle.keytable.specs.Table.{rowCount, headOk, rowsOf, tableOk, holders, rowFor, rowAt, placedRow}
 use Rattle.keytable.specs.Calls.{checkTests, tableSays, tableAnswer, useTests, findUse}
 use Rattle.keytable.specs.Find.{foundSays, foundAnswer, rowFound}
 use Rattle.keytable.specs.declared.Found.{Found}
@@ -107,13 +107,13 @@ abbrev pub FindUnique : Type 0
 FindUnique = (t name : List ℕ) → UniqueBy foundSays (foundAnswer t name)
 
 abbrev pub RowAtUnique : Type 0
-RowAtUnique = (t : Placed) (at : ℕ) → Unique (rowIn t at)
+RowAtUnique = (t : Placed) (at : ℕ) → Unique (placedRow t at)
 
 abbrev pub UseAtUnique : Type 0
 UseAtUnique = (t : List ℕ) (at : ℕ) → Unique (useOf (rowAt t at))
 
 abbrev pub KeyAtUnique : Type 0
-KeyAtUnique = (t : Placed) (at : ℕ) → Unique (keyIn (rowIn t at))
+KeyAtUnique = (t : Placed) (at : ℕ) → Unique (placedKey (placedRow t at))
 
 abbrev pub FindUseUnique : Type 0
 FindUseUnique = (t name : List ℕ) (before : ℕ) → Unique (findUse t name before)

@@ -41,8 +41,8 @@ abbrev pub keyOf : List ℕ → List ℕ
 keyOf row = partOf row keyAt keySize
 
 -- as the part of the row that it is
-abbrev pub keyIn : Placed → Placed
-keyIn row = partIn row keyAt keySize
+abbrev pub placedKey : Placed → Placed
+placedKey row = partIn row keyAt keySize
 
 abbrev pub rowTests : List ℕ → List Bool
 rowTests row =

@@ -90,5 +90,5 @@ abbrev pub rowAt : List ℕ → ℕ → List ℕ
 rowAt t i = partOf t i (rowSizeAt t i)
 
 -- as the part of the table that they are
-abbrev pub rowIn : Placed → ℕ → Placed
-rowIn t i = partIn t i (rowSizeAt (t .bytes) i)
+abbrev pub placedRow : Placed → ℕ → Placed
+placedRow t i = partIn t i (rowSizeAt (t .bytes) i)

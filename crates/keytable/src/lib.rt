@@ -18,8 +18,8 @@ use sizes::ROW_SIZE;
 use sizes::TABLE_FORMAT;
 ghost use mathlib.Core.Path.{_≡_};
 ghost use Rattle.octets.specs.Places.{placed};
-ghost use Rattle.keytable.specs.Row.{useOf, keyIn};
-ghost use Rattle.keytable.specs.Table.{headOk, rowSizeAt, rowAt, rowIn};
+ghost use Rattle.keytable.specs.Row.{useOf, placedKey};
+ghost use Rattle.keytable.specs.Table.{headOk, rowSizeAt, rowAt, placedRow};
 ghost use Rattle.keytable.specs.Calls.{tableSays, tableAnswer, findUse};
 ghost use Rattle.keytable.specs.Find.{foundSays, foundAnswer};
 
@@ -95,7 +95,7 @@ fn row_size_at(t: &[u8], at: usize) -> usize
 
 // The row at a place, as the part of the table that it is, and none where it does not lie in the table.
 pub fn row_at(t: &[u8], at: usize) -> &[u8]
-    ensures { λ r. ⌜ placed r ≡ rowIn (placed (t .entry)) at ⌝ }
+    ensures { λ r. ⌜ placed r ≡ placedRow (placed (t .entry)) at ⌝ }
 {
     cut(t, at, row_size_at(t, at))
 }
@@ -108,7 +108,7 @@ pub fn use_at(t: &[u8], at: usize) -> u8
 }
 
 pub fn key_at(t: &[u8], at: usize) -> &[u8]
-    ensures { λ k. ⌜ placed k ≡ keyIn (rowIn (placed (t .entry)) at) ⌝ }
+    ensures { λ k. ⌜ placed k ≡ placedKey (placedRow (placed (t .entry)) at) ⌝ }
 {
     cut(row_at(t, at), KEY_AT, KEY_SIZE)
 }

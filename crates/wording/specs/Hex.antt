@@ -41,14 +41,14 @@ digitsOf (b ∷ s) = digitOf (b / 16) ∷ digitOf (b % 16) ∷ digitsOf s
 
 -- ---- the calls: their numbers, and the lent output after them
 
-abbrev pub readTests : List ℕ → List ℕ → Tests
-readTests word out = (2, not (isHex word)) ∷ (5, ltb (length out) (length word / 2)) ∷ []
+abbrev pub hexReadTests : List ℕ → List ℕ → Tests
+hexReadTests word out = (2, not (isHex word)) ∷ (5, ltb (length out) (length word / 2)) ∷ []
 
 unfoldable pub hexRead : List ℕ → List ℕ → ℕ × List ℕ
-hexRead word out = answer (lowest (readTests word out)) (hexBytes word) out
+hexRead word out = answer (lowest (hexReadTests word out)) (hexBytes word) out
 
-abbrev pub writeTests : List ℕ → List ℕ → Tests
-writeTests s out = (5, ltb (length out) (2 * length s)) ∷ []
+abbrev pub hexWriteTests : List ℕ → List ℕ → Tests
+hexWriteTests s out = (5, ltb (length out) (2 * length s)) ∷ []
 
 unfoldable pub hexWrite : List ℕ → List ℕ → ℕ × List ℕ
-hexWrite s out = answer (lowest (writeTests s out)) (digitsOf s) out
+hexWrite s out = answer (lowest (hexWriteTests s out)) (digitsOf s) out

@@ -9,7 +9,7 @@ use Rattle.octets.specs.Bytes.{Bytes}
 use Rattle.octets.specs.Lent.{over}
 use Rattle.octets.specs.Lowest.{rises}
 use Rattle.octets.specs.Unique.{Unique}
-use Rattle.wording.specs.Hex.{digitsOf, readTests, hexRead, writeTests, hexWrite}
+use Rattle.wording.specs.Hex.{digitsOf, hexReadTests, hexRead, hexWriteTests, hexWrite}
 
 -- two digits for each byte
 abbrev pub DigitsLength : Type 0
@@ -21,10 +21,10 @@ ThereAndBack = (s out : List ℕ) → Bytes s → length s ≤ length out → he
 
 -- the numbers of both calls rise
 abbrev pub ReadTestsRise : Type 0
-ReadTestsRise = (word out : List ℕ) → rises (readTests word out) ≡ true
+ReadTestsRise = (word out : List ℕ) → rises (hexReadTests word out) ≡ true
 
 abbrev pub WriteTestsRise : Type 0
-WriteTestsRise = (s out : List ℕ) → rises (writeTests s out) ≡ true
+WriteTestsRise = (s out : List ℕ) → rises (hexWriteTests s out) ≡ true
 
 -- for each input one number and one state of the output
 abbrev pub ReadUnique : Type 0
