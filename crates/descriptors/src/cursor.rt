@@ -4,7 +4,7 @@ use crate::descriptor::size_at;
 use crate::list::Tested;
 use crate::list::test;
 use octets::big_endian::read8;
-use octets::strings::cut;
+use octets::strings::part_in;
 ghost use mathlib.Core.Path.{_≡_};
 ghost use mathlib.Core.List.{[], _∷_};
 ghost use Prim.Native.Nat.{_-_};
@@ -134,7 +134,7 @@ pub fn part_at<'a>(list: &'a [u8], from: usize, end: usize) -> &'a [u8]
     ensures { λ r. ⌜ placed r ≡ partIn (placed (list .entry)) from (end - from) ⌝ }
 {
     if end < from {
-        return cut(list, from, 0);
+        return part_in(list, from, 0);
     }
-    cut(list, from, end - from)
+    part_in(list, from, end - from)
 }

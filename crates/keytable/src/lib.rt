@@ -5,7 +5,7 @@ mod sizes;
 
 use octets::big_endian::read8;
 use octets::big_endian::read16;
-use octets::strings::cut;
+use octets::strings::part_in;
 use rows::find_from;
 use rows::names_differ;
 use rows::rows_ok;
@@ -97,7 +97,7 @@ fn row_size_at(t: &[u8], at: usize) -> usize
 pub fn row_at(t: &[u8], at: usize) -> &[u8]
     ensures { λ r. ⌜ placed r ≡ placedRow (placed (t .entry)) at ⌝ }
 {
-    cut(t, at, row_size_at(t, at))
+    part_in(t, at, row_size_at(t, at))
 }
 
 // The use and the key of the row at a place; 0 and none where no row lies there.
@@ -110,7 +110,7 @@ pub fn use_at(t: &[u8], at: usize) -> u8
 pub fn key_at(t: &[u8], at: usize) -> &[u8]
     ensures { λ k. ⌜ placed k ≡ placedKey (placedRow (placed (t .entry)) at) ⌝ }
 {
-    cut(row_at(t, at), KEY_AT, KEY_SIZE)
+    part_in(row_at(t, at), KEY_AT, KEY_SIZE)
 }
 
 // Stores the use of the name's row, and answers 0; or changes nothing, and answers 1 where the table is broken, 2 for an empty name,

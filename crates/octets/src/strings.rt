@@ -61,7 +61,7 @@ pub fn put(out: &mut [u8], s: &[u8])
 }
 
 // The n bytes from place i on, as far as the string reaches, as the part of the string that they are.
-pub fn cut(s: &[u8], i: usize, n: usize) -> &[u8]
+pub fn part_in(s: &[u8], i: usize, n: usize) -> &[u8]
     ensures { λ r. ⌜ placed r ≡ partIn (placed (s .entry)) i n ⌝ }
 {
     if i > s.len() {
@@ -78,7 +78,7 @@ pub fn cut(s: &[u8], i: usize, n: usize) -> &[u8]
 pub fn part(s: &[u8], i: usize, n: usize) -> &[u8]
     ensures { λ r. ⌜ now r ≡ partOf (now (s .entry)) i n ⌝ }
 {
-    cut(s, i, n)
+    part_in(s, i, n)
 }
 
 // Whether every byte is zero.

@@ -7,7 +7,7 @@ use Rattle.keytable.proofs.key_at.Statement.{statement}
 use Rattle.keytable.proofs.key_at.Tie as tie
 
 returns : tie.Need-returns
-returns c = c .cut .ensures ∙ ap placedKey (c .before .row-at .ensures)
+returns c = c .part-in .ensures ∙ ap placedKey (c .before .row-at .ensures)
 
 pub key-at-spec : {M : Type 1} → statement M
 key-at-spec = tie.close (tie.spec (λ c κs. search needs) (λ c κs. search needs) returns)

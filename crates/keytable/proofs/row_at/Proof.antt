@@ -9,7 +9,7 @@ use Rattle.keytable.proofs.row_at.Tie as tie
 returns : tie.Need-returns
 returns c =
     let a = c .before .before .before .args in
-    c .cut .ensures ∙ ap (partIn (placed (a .t)) (a .at)) (c .before .row-size-at .ensures)
+    c .part-in .ensures ∙ ap (partIn (placed (a .t)) (a .at)) (c .before .row-size-at .ensures)
 
 pub row-at-spec : {M : Type 1} → statement M
 row-at-spec = tie.close (tie.spec (λ c κs. search needs) (λ c κs. search needs) returns)

@@ -12,7 +12,7 @@ returns : tie.Need-returns
 returns c =
     let a = c .before .before .before .args in
     let none : 0 ≡ a .end - a .from = omega arith in
-    c .cut .ensures ∙ ap (partIn (placed (a .list)) (a .from)) none
+    c .part-in .ensures ∙ ap (partIn (placed (a .list)) (a .from)) none
 
 pub part-at-spec : {M : Type 1} → statement M
 part-at-spec = tie.close (tie.spec (λ c κs. search needs) returns (λ c κs. search needs) (λ c. search needs))

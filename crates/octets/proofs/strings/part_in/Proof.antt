@@ -1,4 +1,4 @@
--- `octets::strings::cut` meets its contract: past the end there is nothing to take.
+-- `octets::strings::part_in` meets its contract: past the end there is nothing to take.
 -- Assumes nothing.
 use mathlib.Core.Path.{_≡_, sym, ap, ap₂, _∙_}
 use mathlib.Core.List.{List, []}
@@ -11,8 +11,8 @@ use lib.ListN.{length, take, drop, drop-of-length-le, length-drop}
 use lib.Seq.{take-all, take-nil}
 use Rattle.octets.specs.Tests.{partOf}
 use Rattle.octets.specs.Places.{Placed, placed, partIn}
-use Rattle.octets.proofs.strings.cut.Statement.{statement}
-use Rattle.octets.proofs.strings.cut.Tie as tie
+use Rattle.octets.proofs.strings.part_in.Statement.{statement}
+use Rattle.octets.proofs.strings.part_in.Tie as tie
 
 -- what is taken from k on, in the block of s, is the part from i on
 taken : (s : RefT (List ℕ)) (i n k m : ℕ) → k ≡ min i (length (s .now)) → partOf (s .now) k m ≡ partOf (s .now) i n
@@ -46,8 +46,8 @@ returns-3 c =
     let a = c .before .before .before .args in
     taken (a .s) (a .i) (a .n) (a .i) (a .i + a .n - a .i) (omega arith) (rw (add-sub-cancel-left (a .i) (a .n)))
 
-pub cut-spec : {M : Type 1} → statement M
-cut-spec =
+pub part-in-spec : {M : Type 1} → statement M
+part-in-spec =
     tie.close
     (tie.spec
     (λ c. search needs)
