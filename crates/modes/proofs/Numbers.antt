@@ -97,14 +97,16 @@ module _ (m : Mode) (key iv a b c t out : List ℕ) where
     pub decrypt-refused : (n ≡ 0 → ⊥) → decryptAnswer m key iv a b c t out ≡ (n, out)
     unfolding decryptAnswer decryptNumber
     decrypt-refused some =
-        ap (λ (k : ℕ). answer k (m .plaintext key iv c) out) (lowest-refused (argumentTests wrong-any a b c (length c) (length out)) (tagTests (m .authentic key iv (a ++ b) c t)) (λ z. some (tested ∙ z)) ∙ sym tested)
+        ap (λ (k : ℕ). answer k (m .plaintext key iv c) out)
+        (lowest-refused (argumentTests wrong-any a b c (length c) (length out)) (tagTests (m .authentic key iv (a ++ b) c t)) (λ z. some (tested ∙ z)) ∙ sym tested)
         ∙ answer-other n (m .plaintext key iv c) out some
 
     -- the tag decides
     pub decrypt-done : n ≡ 0 → decryptAnswer m key iv a b c t out ≡ answer (lowest (tagTests (m .authentic key iv (a ++ b) c t))) (m .plaintext key iv c) out
     unfolding decryptAnswer decryptNumber
     decrypt-done none =
-        ap (λ (k : ℕ). answer k (m .plaintext key iv c) out) (lowest-passed (argumentTests wrong-any a b c (length c) (length out)) (tagTests (m .authentic key iv (a ++ b) c t)) refl (sym tested ∙ none))
+        ap (λ (k : ℕ). answer k (m .plaintext key iv c) out)
+        (lowest-passed (argumentTests wrong-any a b c (length c) (length out)) (tagTests (m .authentic key iv (a ++ b) c t)) refl (sym tested ∙ none))
 
   -- in range
   pub decrypt-in-range : length key ≡ m .keySize → length iv ≡ m .ivSize → m .permits (length c) ≡ true → length t ≡ m .tagSize

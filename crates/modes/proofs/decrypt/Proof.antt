@@ -31,18 +31,24 @@ tested c =
 
 returns : tie.Need-returns
 returns c =
-    let a = c .before .before .before .before .before .before .before .before .before .before .before .args in
+    let start = c .before .before .before .before .before .before .before .before .before .before .before in
+    let a = start .args in
     decrypt-refused (modeOf (a .u)) (a .key .now) (a .iv .now) (a .a .now) (a .b .now) (a .text .now) (a .tag .now) (a .out .now) (tested (c .before)) (c .if1 .taken)
 
 open-requires : tie.Need-open-requires
 open-requires c κs =
-    let a = c .before .before .before .before .before .before .before .before .before .before .before .before .args in
-    decrypt-passed (a .u) (a .key .now) (a .iv .now) (a .a .now) (a .b .now) (a .text .now) (length (a .out .now)) (a .tag .now) (sym (tested (c .before .before)) ∙ c .before .if1 .left)
+    let start = c .before .before .before .before .before .before .before .before .before .before .before .before in
+    let a = start .args in
+    decrypt-passed (a .u) (a .key .now) (a .iv .now) (a .a .now) (a .b .now) (a .text .now) (length (a .out .now)) (a .tag .now)
+    (sym (tested (c .before .before)) ∙ c .before .if1 .left)
 
 returns-2 : tie.Need-returns-2
 returns-2 c =
-    let a = c .before .before .before .before .before .before .before .before .before .before .before .before .before .before .before .args in
-    decrypt-done (modeOf (a .u)) (a .key .now) (a .iv .now) (a .a .now) (a .b .now) (a .text .now) (a .tag .now) (a .out .now) (tested (c .before .before .before .before .before)) (c .before .before .before .before .if1 .left)
+    let else1 = c .before .before .before .before in
+    let after-argument-number = else1 .before in
+    let start = after-argument-number .before .before .before .before .before .before .before .before .before .before in
+    let a = start .args in
+    decrypt-done (modeOf (a .u)) (a .key .now) (a .iv .now) (a .a .now) (a .b .now) (a .text .now) (a .tag .now) (a .out .now) (tested after-argument-number) (else1 .if1 .left)
     ∙ c .before .before .open .ensures
 
 pub decrypt-spec : {M : Type 1} → statement M

@@ -24,22 +24,29 @@ tested c =
     (c .before .before .wrong-sizes .ensures (a .plain .now)) (c .before .tag-size .ensures) (c .argument-number .ensures)
 
 argument-number-requires : tie.Need-argument-number-requires
-argument-number-requires c κs = omega (arith, c .tag-size .ensures ∙ sym (named-tagSize (c .before .before .before .before .before .before .before .before .args .u)))
+argument-number-requires c κs =
+    let start = c .before .before .before .before .before .before .before .before in
+    omega (arith, c .tag-size .ensures ∙ sym (named-tagSize (start .args .u)))
 
 returns : tie.Need-returns
 returns c =
-    let a = c .before .before .before .before .before .before .before .before .before .before .args in
+    let start = c .before .before .before .before .before .before .before .before .before .before in
+    let a = start .args in
     encrypt-refused (modeOf (a .u)) (a .key .now) (a .iv .now) (a .a .now) (a .b .now) (a .plain .now) (a .out .now) (tested (c .before)) (c .if1 .taken)
 
 seal-requires : tie.Need-seal-requires
 seal-requires c κs =
-    let a = c .before .before .before .before .before .before .before .before .before .before .before .args in
+    let start = c .before .before .before .before .before .before .before .before .before .before .before in
+    let a = start .args in
     encrypt-passed (a .u) (a .key .now) (a .iv .now) (a .a .now) (a .b .now) (a .plain .now) (length (a .out .now)) (sym (tested (c .before .before)) ∙ c .before .if1 .left)
 
 returns-2 : tie.Need-returns-2
 returns-2 c =
-    let a = c .before .before .before .before .before .before .before .before .before .before .before .before .before .before .args in
-    encrypt-done (modeOf (a .u)) (a .key .now) (a .iv .now) (a .a .now) (a .b .now) (a .plain .now) (a .out .now) (tested (c .before .before .before .before .before)) (c .before .before .before .before .if1 .left)
+    let else1 = c .before .before .before .before in
+    let after-argument-number = else1 .before in
+    let start = after-argument-number .before .before .before .before .before .before .before .before .before in
+    let a = start .args in
+    encrypt-done (modeOf (a .u)) (a .key .now) (a .iv .now) (a .a .now) (a .b .now) (a .plain .now) (a .out .now) (tested after-argument-number) (else1 .if1 .left)
     ∙ c .before .before .seal .ensures
 
 pub encrypt-spec : {M : Type 1} → statement M

@@ -16,23 +16,35 @@ ready c =
 
 open-requires : tie.Need-open-requires
 open-requires c κs =
-    let start = c .before .before .before .before .before .before .before .before .before .before .before .before .before .before in (ready (c .before .before .before .before), start .pre .1, start .pre .2, start .pre .3, start .pre .5)
+    let after-expand-key = c .before .before .before .before in
+    let start = after-expand-key .before .before .before .before .before .before .before .before .before .before in
+    (ready after-expand-key, start .pre .1, start .pre .2, start .pre .3, start .pre .5)
 
 returns : tie.Need-returns
 returns c =
-    let a = c .before .before .before .before .before .before .before .before .before .before .before .before .before .before .before .before .before .args in
-    gcm-opened (a .u) (a .key .now) (a .iv .now) (a .a .now ++ a .b .now) (a .text .now) (a .out .now) (c .before .before .before .before .before .before .before .expand-key .ensures) (c .before .before .before .before .before .before .before .before .key-of .ensures)
-    (a .tag .now) (c .before .before .before .before .before .before .if1 .taken) (c .before .before .open .ensures)
+    let then1 = c .before .before .before .before .before .before in
+    let after-expand-key = then1 .before in
+    let after-key-of = after-expand-key .before in
+    let start = after-key-of .before .before .before .before .before .before .before .before .before in
+    let a = start .args in
+    gcm-opened (a .u) (a .key .now) (a .iv .now) (a .a .now ++ a .b .now) (a .text .now) (a .out .now) (after-expand-key .expand-key .ensures) (after-key-of .key-of .ensures)
+    (a .tag .now) (then1 .if1 .taken) (c .before .before .open .ensures)
 
 open-requires-2 : tie.Need-open-requires-2
 open-requires-2 c κs =
-    let start = c .before .before .before .before .before .before .before .before .before .before .before .before .before .before in (ready (c .before .before .before .before), start .pre .1, start .pre .2, start .pre .3, start .pre .4, start .pre .5)
+    let after-expand-key = c .before .before .before .before in
+    let start = after-expand-key .before .before .before .before .before .before .before .before .before .before in
+    (ready after-expand-key, start .pre .1, start .pre .2, start .pre .3, start .pre .4, start .pre .5)
 
 returns-2 : tie.Need-returns-2
 returns-2 c =
-    let a = c .before .before .before .before .before .before .before .before .before .before .before .before .before .before .before .before .before .args in
-    ccm-opened (a .u) (a .key .now) (a .iv .now) (a .a .now ++ a .b .now) (a .text .now) (a .out .now) (c .before .before .before .before .before .before .before .expand-key .ensures) (c .before .before .before .before .before .before .before .before .key-of .ensures)
-    (a .tag .now) (c .before .before .before .before .before .before .if1 .left) (c .before .before .open2 .ensures)
+    let else1 = c .before .before .before .before .before .before in
+    let after-expand-key = else1 .before in
+    let after-key-of = after-expand-key .before in
+    let start = after-key-of .before .before .before .before .before .before .before .before .before in
+    let a = start .args in
+    ccm-opened (a .u) (a .key .now) (a .iv .now) (a .a .now ++ a .b .now) (a .text .now) (a .out .now) (after-expand-key .expand-key .ensures) (after-key-of .key-of .ensures)
+    (a .tag .now) (else1 .if1 .left) (c .before .before .open2 .ensures)
 
 pub open-spec : {M : Type 1} → statement M
 open-spec =

@@ -10,10 +10,14 @@ returns-2 : tie.Need-returns-2
 returns-2 c = rw (c .before .before .if1 .left, sym (c .before .too-long .ensures) ∙ c .if2 .taken)
 
 returns-3 : tie.Need-returns-3
-returns-3 c = rw (c .before .before .before .if1 .left, sym (c .before .before .too-long .ensures) ∙ c .before .if2 .left, lt-ltb _ _ (c .if3 .taken))
+returns-3 c =
+    let else1 = c .before .before .before in
+    rw (else1 .if1 .left, sym (c .before .before .too-long .ensures) ∙ c .before .if2 .left, lt-ltb _ _ (c .if3 .taken))
 
 returns-4 : tie.Need-returns-4
-returns-4 c = rw (c .before .before .before .if1 .left, sym (c .before .before .too-long .ensures) ∙ c .before .if2 .left, le-ltb _ _ (c .if3 .left))
+returns-4 c =
+    let else1 = c .before .before .before in
+    rw (else1 .if1 .left, sym (c .before .before .too-long .ensures) ∙ c .before .if2 .left, le-ltb _ _ (c .if3 .left))
 
 pub argument-number-spec : {M : Type 1} → statement M
 argument-number-spec =

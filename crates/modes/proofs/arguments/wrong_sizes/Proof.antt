@@ -14,7 +14,8 @@ use Rattle.modes.proofs.arguments.wrong_sizes.Tie as tie
 
 returns : tie.Need-returns
 returns c =
-    let a = c .before .before .before .args in
+    let start = c .before .before .before in
+    let a = start .args in
     λ (s : List ℕ).
     ap (λ (n : ℕ). isNot 32 (a .key .now) || not (eqb (length (a .iv .now)) n)) (c .iv-size .ensures ∙ sym (named-ivSize (a .u)))
     ∙ named-sizes (a .u) (a .key .now) (a .iv .now) s

@@ -6,7 +6,9 @@ use Rattle.modes.proofs.ccm.base_of.Statement.{statement}
 use Rattle.modes.proofs.ccm.base_of.Tie as tie
 
 returns : tie.Need-returns
-returns c = front-stored (c .before .before .before .before .args .iv .now) (c .before .before .before .before .pre) (c .before .put .ensures)
+returns c =
+    let start = c .before .before .before .before in
+    front-stored (start .args .iv .now) (start .pre) (c .before .put .ensures)
 
 pub base-of-spec : {M : Type 1} → statement M
 base-of-spec =

@@ -20,8 +20,10 @@ returns-2 c =
     let tested = sized .before in
     let start = tested .before .before .before in
     let a = start .args in
+    let ready = start .pre .0 in
     data-steps (cipher (a .ks .now)) (cipher-length (a .ks .now)) (a .y) (a .a .now) (a .b .now) _ _ _ _ _ (start .good .1 .1 .0 .1 .0 .1) (tested .if1 .left)
-    (sized .bytes16 .ensures) (first .before .absorb .ensures .by-cipher (start .pre .0)) (first .absorb2 .ensures .by-cipher (start .pre .0)) (second .absorb3 .ensures .by-cipher (start .pre .0)) (c .close .ensures .by-cipher (start .pre .0))
+    (sized .bytes16 .ensures) (first .before .absorb .ensures .by-cipher ready) (first .absorb2 .ensures .by-cipher ready)
+    (second .absorb3 .ensures .by-cipher ready) (c .close .ensures .by-cipher ready)
 
 pub chain-data-spec : {M : Type 1} → statement M
 chain-data-spec =

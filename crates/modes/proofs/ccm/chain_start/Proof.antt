@@ -17,7 +17,7 @@ use Rattle.modes.proofs.ccm.chain_start.Tie as tie
 returns : tie.Need-returns
 returns c =
     let begun = c .before in
-    let start = c .before .before .before .before .before in
+    let start = begun .before .before .before .before in
     let a = start .args in
     c .chain-data .ensures
     ∙ ap (λ (y : List ℕ). chain (cipher (a .ks .now)) y (dataBlocks (a .a .now ++ a .b .now)))

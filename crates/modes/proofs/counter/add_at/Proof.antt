@@ -14,13 +14,15 @@ use Rattle.modes.proofs.counter.add_at.Tie as tie
 
 returns : tie.Need-returns
 returns c =
-    let sum = c .before .before .before .before .add-halves in
-    let start = c .before .before .before .before .before .before .before .before in
+    let after-add-halves = c .before .before .before .before in
+    let after-halves-at = after-add-halves .before in
+    let start = after-halves-at .before .before .before in
+    let sum = after-add-halves .add-halves in
     let a = start .args in
     block-put (a .out .now) (halvesBlock (sum .result)) (a .at) (halves-length (sum .result)) (start .pre .1) (c .before .before .put-halves .ensures)
     ∙ ap (λ (b : List ℕ). take (a .at) (a .out .now) ++ (b ++ drop 16 (drop (a .at) (a .out .now))))
     (sum .ensures
-    ∙ ap (λ (b : List ℕ). xors b (halvesBlock (a .pad))) (c .before .before .before .before .before .halves-at .ensures ∙ block-at-whole (a .text .now) (a .at) (start .pre .0)))
+    ∙ ap (λ (b : List ℕ). xors b (halvesBlock (a .pad))) (after-halves-at .halves-at .ensures ∙ block-at-whole (a .text .now) (a .at) (start .pre .0)))
 
 pub add-at-spec : {M : Type 1} → statement M
 add-at-spec =

@@ -7,9 +7,10 @@ use Rattle.modes.proofs.counter.add_last.Tie as tie
 
 returns : tie.Need-returns
 returns c =
-    let start = c .before .before .before .before .before .before .before .before in
+    let after-summed = c .before .before .before .before .before in
+    let start = after-summed .before .before .before in
     let a = start .args in
-    summed-put (a .text .now) (a .pad) (start .good .1 .0 .1 .0 .1) (start .pre .0) (a .out .now) (start .pre .1) (c .before .before .before .before .before .summed .ensures) (c .before .before .put .ensures)
+    summed-put (a .text .now) (a .pad) (start .good .1 .0 .1 .0 .1) (start .pre .0) (a .out .now) (start .pre .1) (after-summed .summed .ensures) (c .before .before .put .ensures)
 
 pub add-last-spec : {M : Type 1} → statement M
 add-last-spec =

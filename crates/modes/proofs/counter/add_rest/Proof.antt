@@ -27,17 +27,26 @@ loop-holds c = partly-start
 
 add-single-requires : tie.Need-add-single-requires Inv-loop μ-loop
 add-single-requires c κs =
+    let in-loop = c .before .before .before in
+    let at-loop = in-loop .before in
+    let start = at-loop .before .before .before in
     let ended = c .before .before .block-end in
-    let lent = partly-lent (c .before .before .before .before .loop .inv) (fits (c .before .before .before .before .before .before .before)) 16 (ended .result) (c .before .before .before .loop-test .taken) (ended .ensures) in
-    (c .before .before .before .before .before .before .before .pre .0, lent .0, lent .1)
+    let lent = partly-lent (at-loop .loop .inv) (fits start) 16 (ended .result) (in-loop .loop-test .taken) (ended .ensures) in
+    (start .pre .0, lent .0, lent .1)
 
 add-k : tie.Need-add-k Inv-loop μ-loop
-add-k c = omega (arith, c .before .before .before .before .before .before .before .loop .inv .counted)
+add-k c =
+    let at-loop = c .before .before .before .before .before .before .before in
+    omega (arith, at-loop .loop .inv .counted)
 
 loop-again : tie.Need-loop-again Inv-loop μ-loop
 loop-again c =
-    let ended = c .before .before .before .before .before .block-end in
-    partly-most (c .before .before .before .before .before .before .before .loop .inv) (fits (c .before .before .before .before .before .before .before .before .before .before)) (c .before .before .before .before .before .before .before .before .before .before .pre .0) 1 (ended .result) 1 (c .before .before .before .before .before .before .loop-test .taken) (lit< tt) (ended .ensures)
+    let after-block-end = c .before .before .before .before .before in
+    let in-loop = after-block-end .before in
+    let at-loop = in-loop .before in
+    let start = at-loop .before .before .before in
+    let ended = after-block-end .block-end in
+    partly-most (at-loop .loop .inv) (fits start) (start .pre .0) 1 (ended .result) 1 (in-loop .loop-test .taken) (lit< tt) (ended .ensures)
     (omega (arith, ended .ensures)) (c .before .before .add-single .ensures)
 
 same-length : tie.Need-same-length Inv-loop μ-loop

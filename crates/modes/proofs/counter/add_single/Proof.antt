@@ -8,10 +8,12 @@ use Rattle.modes.proofs.counter.add_single.Tie as tie
 
 returns : tie.Need-returns
 returns c =
-    let start = c .before .before .before .before .before .before .before .before in
+    let after-block = c .before .before .before .before in
+    let after-encrypt-from = after-block .before in
+    let start = after-encrypt-from .before .before .before in
     let a = start .args in
     single-added (a .t .now) (a .ks .now) (a .s) (start .pre .0) (a .k) (a .text .now) (start .pre .1)
-    (c .before .before .before .before .block .ensures ∙ c .before .before .before .before .before .encrypt-from .ensures) (c .before .before .add-last .ensures)
+    (after-block .block .ensures ∙ after-encrypt-from .encrypt-from .ensures) (c .before .before .add-last .ensures)
 
 pub add-single-spec : {M : Type 1} → statement M
 add-single-spec =

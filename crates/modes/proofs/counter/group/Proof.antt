@@ -51,34 +51,49 @@ loop-holds c = partly-start
 
 add-at-requires : tie.Need-add-at-requires Inv-loop μ-loop
 add-at-requires c κs =
-    let more = pair-within (c .before .before .before .loop .at) (length (c .before .before .before .before .before .before .before .args .text .now)) (c .before .before .loop-test .taken) in
-    (more .0, partly-room (c .before .before .before .loop .inv) (fits (c .before .before .before .before .before .before .before)) (more .0))
+    let at-loop = c .before .before .before in
+    let start = at-loop .before .before .before .before in
+    let more = pair-within (at-loop .loop .at) (length (start .args .text .now)) (c .before .before .loop-test .taken) in
+    (more .0, partly-room (at-loop .loop .inv) (fits start) (more .0))
 
 add-at-requires-2 : tie.Need-add-at-requires-2 Inv-loop μ-loop
 add-at-requires-2 c κs =
-    let more = pair-within (c .before .before .before .before .before .before .before .loop .at) (length (c .before .before .before .before .before .before .before .before .before .before .before .args .text .now)) (c .before .before .before .before .before .before .loop-test .taken) in
-    (more .1, partly-room (first (c .before .before .before)) (fits (c .before .before .before .before .before .before .before .before .before .before .before)) (more .1))
+    let after-add-at = c .before .before .before in
+    let in-loop = after-add-at .before .before .before in
+    let at-loop = in-loop .before in
+    let start = at-loop .before .before .before .before in
+    let more = pair-within (at-loop .loop .at) (length (start .args .text .now)) (in-loop .loop-test .taken) in
+    (more .1, partly-room (first after-add-at) (fits start) (more .1))
 
 loop-again : tie.Need-loop-again Inv-loop μ-loop
 loop-again c =
-    let a = c .before .before .before .before .before .before .before .before .before .before .before .before .before .before .args in
-    let begun = c .before .before .before .before .before .before .before .before .before .before .before in
-    partly-block (first (c .before .before .before .before .before .before)) (fits (c .before .before .before .before .before .before .before .before .before .before .before .before .before .before)) (sized begun) (pair-within (c .before .before .before .before .before .before .before .before .before .before .loop .at) (length (c .before .before .before .before .before .before .before .before .before .before .before .before .before .before .args .text .now)) (c .before .before .before .before .before .before .before .before .before .loop-test .taken) .1)
-    (c .before .before .before .before .before .before .before .before .encrypt-two-from .ensures .1 ∙ sym (pad-counter (a .t .now) (a .ks .now) (begun .start-at .result) (c .before .before .before .before .before .before .before .before .before .before .loop .k + 1)))
+    let after-add-at = c .before .before .before .before .before .before in
+    let after-encrypt-two-from = after-add-at .before .before in
+    let in-loop = after-encrypt-two-from .before in
+    let at-loop = in-loop .before in
+    let begun = at-loop .before in
+    let start = begun .before .before .before in
+    let a = start .args in
+    partly-block (first after-add-at) (fits start) (sized begun) (pair-within (at-loop .loop .at) (length (start .args .text .now)) (in-loop .loop-test .taken) .1)
+    (after-encrypt-two-from .encrypt-two-from .ensures .1 ∙ sym (pad-counter (a .t .now) (a .ks .now) (begun .start-at .result) (at-loop .loop .k + 1)))
     (c .before .before .add-at2 .ensures)
 
 add-rest-requires : tie.Need-add-rest-requires Inv-loop μ-loop
 add-rest-requires c κs =
-    let l = c .before .before .before .loop in
-    let left = partly-rest (l .inv) (fits (c .before .before .before .before .before .before .before)) in
-    (sized (c .before .before .before .before), omega (arith, left .0), left .1, omega (arith, l .inv .counted))
+    let at-loop = c .before .before .before in
+    let after-start-at = at-loop .before in
+    let start = after-start-at .before .before .before in
+    let l = at-loop .loop in
+    let left = partly-rest (l .inv) (fits start) in
+    (sized after-start-at, omega (arith, left .0), left .1, omega (arith, l .inv .counted))
 
 returns : tie.Need-returns Inv-loop μ-loop
 returns c =
-    let start = c .before .before .before .before .before .before .before .before .before .before in
-    let begun = c .before .before .before .before .before .before .before in
+    let at-loop = c .before .before .before .before .before .before in
+    let begun = at-loop .before in
+    let start = begun .before .before .before in
     let a = start .args in
-    partly-last (c .before .before .before .before .before .before .loop .inv) (fits start) (sized begun) (c .before .before .add-rest .ensures)
+    partly-last (at-loop .loop .inv) (fits start) (sized begun) (c .before .before .add-rest .ensures)
     ∙ over-whole _ (a .out .now) (length-ctr (padOf (a .t .now) (a .ks .now) (begun .start-at .result)) (sized begun) 1 [] (a .i) (a .text .now) ∙ sym (start .pre .1))
     ∙ serves-text (begun .start-at .ensures) (a .text .now) (start .pre .2)
 

@@ -24,29 +24,37 @@ loop-holds c = partly-start
 
 group-requires : tie.Need-group-requires Inv-loop μ-loop
 group-requires c κs =
-    let start = c .before .before .before .before .before .before .before in
-    let l = c .before .before .before .before .loop in
+    let in-loop = c .before .before .before in
+    let at-loop = in-loop .before in
+    let start = at-loop .before .before .before in
+    let l = at-loop .loop in
     let ended = c .before .before .group-end in
-    let lent = partly-lent (l .inv) (start .pre .1) (16 * (256 - l .k % 256)) (ended .result) (c .before .before .before .loop-test .taken) (ended .ensures) in
+    let lent = partly-lent (l .inv) (start .pre .1) (16 * (256 - l .k % 256)) (ended .result) (in-loop .loop-test .taken) (ended .ensures) in
     (start .pre .0, lent .1, group-fits (l .k) _ (lent .0), omega (arith, l .inv .counted))
 
 add-k-2 : tie.Need-add-k-2 Inv-loop μ-loop
-add-k-2 c = omega (arith, c .before .before .before .before .before .before .before .loop .inv .counted)
+add-k-2 c =
+    let at-loop = c .before .before .before .before .before .before .before in
+    omega (arith, at-loop .loop .inv .counted)
 
 loop-again : tie.Need-loop-again Inv-loop μ-loop
 loop-again c =
-    let start = c .before .before .before .before .before .before .before .before .before .before in
-    let l = c .before .before .before .before .before .before .before .loop in
-    let ended = c .before .before .before .before .before .group-end in
+    let after-group-end = c .before .before .before .before .before in
+    let in-loop = after-group-end .before in
+    let at-loop = in-loop .before in
+    let start = at-loop .before .before .before in
+    let l = at-loop .loop in
+    let ended = after-group-end .group-end in
     partly-most (l .inv) (start .pre .1) (cipher-length (start .args .ks .now)) (256 - l .k % 256) (ended .result) ((ended .result - l .from + 15) / 16)
-    (c .before .before .before .before .before .before .loop-test .taken) (group-some (l .k)) (ended .ensures) refl (c .before .before .group .ensures)
+    (in-loop .loop-test .taken) (group-some (l .k)) (ended .ensures) refl (c .before .before .group .ensures)
 
 same-length : tie.Need-same-length Inv-loop μ-loop
 same-length c = c .before .loop .inv .room
 
 returns : tie.Need-returns Inv-loop μ-loop
 returns c =
-    let start = c .before .before .before .before in partly-end (c .before .loop .inv) (start .pre .1) (cipher-length (start .args .ks .now)) (c .loop-test .left)
+    let start = c .before .before .before .before in
+    partly-end (c .before .loop .inv) (start .pre .1) (cipher-length (start .args .ks .now)) (c .loop-test .left)
 
 pub run-spec : {M : Type 1} → statement M
 run-spec =

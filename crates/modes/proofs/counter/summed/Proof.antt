@@ -22,15 +22,15 @@ loop-holds c = (omega arith, refl)
 
 loop-again : tie.Need-loop-again Inv-loop μ-loop
 loop-again c =
-    let l = c .before .before .loop in
     let start = c .before .before .before in
+    let l = c .before .before .loop in
     let pad = start .good .1 .0 .1 .0 .1 in
     (omega arith, summed-turn (start .args .text .now) (start .args .t2) pad (start .pre) (l .j) (c .before .loop-test .taken) (l .inv .1))
 
 returns : tie.Need-returns Inv-loop μ-loop
 returns c =
-    let l = c .before .loop in
     let start = c .before .before in
+    let l = c .before .loop in
     summed-end (start .args .text .now) (start .args .t2) (start .good .1 .0 .1 .0 .1) (start .pre) (l .j) (l .inv .0) (c .loop-test .left) (l .inv .1)
 
 pub summed-spec : {M : Type 1} → statement M

@@ -7,7 +7,9 @@ use Rattle.modes.proofs.gcm.base_of.Statement.{statement}
 use Rattle.modes.proofs.gcm.base_of.Tie as tie
 
 returns : tie.Need-returns
-returns c = c .before .put .ensures ∙ base-stored (c .before .before .before .before .args .iv .now) (c .before .before .before .before .pre)
+returns c =
+    let start = c .before .before .before .before in
+    c .before .put .ensures ∙ base-stored (start .args .iv .now) (start .pre)
 
 pub base-of-spec : {M : Type 1} → statement M
 base-of-spec =

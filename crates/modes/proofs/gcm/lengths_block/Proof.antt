@@ -10,9 +10,12 @@ use Rattle.modes.proofs.gcm.lengths_block.Tie as tie
 
 returns : tie.Need-returns
 returns c =
-    let first = c .before .before .before .before .before .before .before .before .before .bytes64 in
-    let second = c .before .before .before .before .before .before .before .before .bytes642 in
-    two-stored (first .result) (second .result) _ (first .ok .1 .0 .1) (second .ok .1 .0 .1) (c .before .before .before .before .before .put .ensures) (c .before .put2 .ensures)
+    let after-put = c .before .before .before .before .before in
+    let after-bytes642 = after-put .before .before .before in
+    let after-bytes64 = after-bytes642 .before in
+    let first = after-bytes64 .bytes64 in
+    let second = after-bytes642 .bytes642 in
+    two-stored (first .result) (second .result) _ (first .ok .1 .0 .1) (second .ok .1 .0 .1) (after-put .put .ensures) (c .before .put2 .ensures)
     ∙ ap₂ (λ (x y : List ℕ). x ++ y) (first .ensures) (second .ensures)
 
 pub lengths-block-spec : {M : Type 1} → statement M

@@ -39,56 +39,74 @@ loop-holds c = let serves = c .before .start-at .ensures in (omega arith, omega 
 
 renewed-requires : tie.Need-renewed-requires Inv-loop μ-loop
 renewed-requires c κs =
-    let l = c .before .loop in (c .before .before .before .before .before .before .pre .0, omega (arith, c .before .before .before .before .before .before .pre .1), l .inv .2)
+    let start = c .before .before .before .before .before .before in
+    let l = c .before .loop in (start .pre .0, omega (arith, start .pre .1), l .inv .2)
 
 add-open-block : tie.Need-add-open-block Inv-loop μ-loop
-add-open-block c = omega (arith, c .before .before .before .before .before .before .before .pre .1)
+add-open-block c =
+    let start = c .before .before .before .before .before .before .before in
+    omega (arith, start .pre .1)
 
 open-block-requires : tie.Need-open-block-requires Inv-loop μ-loop
-open-block-requires c κs = c .before .before .before .before .before .before .before .before .pre .0
+open-block-requires c κs =
+    let start = c .before .before .before .before .before .before .before .before in
+    start .pre .0
 
 add-at : tie.Need-add-at Inv-loop μ-loop
-add-at c = omega (arith, c .before .before .before .before .before .before .before .before .before .before .before .pre .1)
+add-at c =
+    let start = c .before .before .before .before .before .before .before .before .before .before .before in
+    omega (arith, start .pre .1)
 
 add-k : tie.Need-add-k Inv-loop μ-loop
-add-k c = omega (arith, c .before .before .before .before .before .before .before .before .before .before .before .pre .1)
+add-k c =
+    let start = c .before .before .before .before .before .before .before .before .before .before .before in
+    omega (arith, start .pre .1)
 
 loop-again : tie.Need-loop-again Inv-loop μ-loop
 loop-again c =
-    let a = c .before .before .before .before .before .before .before .before .before .before .before .args in
-    let l = c .before .before .before .before .before .before .loop in
+    let after-halves-at = c .before .before .before in
+    let after-renewed = after-halves-at .before in
+    let in-loop = after-renewed .before in
+    let at-loop = in-loop .before in
+    let start = at-loop .before .before .before .before .before in
+    let a = start .args in
+    let l = at-loop .loop in
     let F = cipher (a .ks .now) in
     let front = frontOf false (a .base) in
-    let serves = c .before .before .before .before .renewed .ensures in
+    let serves = after-renewed .renewed .ensures in
     let both = c .before .before .open-block .ensures in
-    let more = block-within (c .before .before .before .before .before .before .loop .at) (length (c .before .before .before .before .before .before .before .before .before .before .before .args .c .now)) (c .before .before .before .before .before .loop-test .taken) in (
+    let more = block-within (at-loop .loop .at) (length (start .args .c .now)) (in-loop .loop-test .taken) in (
       more,
       omega arith,
       serves,
       both .1 ∙ serves .pads (l .k + 1) refl,
       ap (λ (y : List ℕ). chain F y (cut (ctr F 3 front (l .k + 1) (drop (l .at + 16) (a .c .now)))))
           (both .0
-          ∙ ap₂ (λ (b q : List ℕ). F (xors (halvesBlock (l .h)) (xors b q))) (c .before .before .before .halves-at .ensures ∙ block-at-whole (a .c .now) (l .at) more) (l .inv .3))
+          ∙ ap₂ (λ (b q : List ℕ). F (xors (halvesBlock (l .h)) (xors b q))) (after-halves-at .halves-at .ensures ∙ block-at-whole (a .c .now) (l .at) more) (l .inv .3))
           ∙ opened-turn F (cipher-length (a .ks .now)) 3 front (halvesBlock (l .h)) (a .c .now) (l .k) (l .at) more
           ∙ l .inv .4,
     )
 
 open-last-requires : tie.Need-open-last-requires Inv-loop μ-loop
 open-last-requires c κs =
-    let start = c .before .before .before .before .before .before .before .before in
-    let l = c .before .before .before .loop in
+    let at-loop = c .before .before .before in
+    let start = at-loop .before .before .before .before .before in
+    let l = at-loop .loop in
     (start .pre .0, omega (arith, part-length (start .args .c .now) (l .at) (length (start .args .c .now)) (omega arith)))
 
 returns : tie.Need-returns Inv-loop μ-loop
 returns c =
-    let a = c .before .before .before .before .before .before .before .before .before .args in
-    let l = c .before .before .before .before .loop in
+    let at-loop = c .before .before .before .before in
+    let after-halves-from = at-loop .before .before .before in
+    let start = after-halves-from .before .before in
+    let a = start .args in
+    let l = at-loop .loop in
     let F = cipher (a .ks .now) in
     let front = frontOf false (a .base) in
     c .open-last .ensures
     ∙ ap₂ (λ (y s : List ℕ). chain F y (cut (ctr F 3 front (l .k) s))) (c .before .before .block .ensures) (rest-all (a .c .now) (l .at))
     ∙ l .inv .4
-    ∙ ap (λ (y : List ℕ). chain F y (cut (ctr F 3 front 1 (a .c .now)))) (c .before .before .before .before .before .before .before .halves-from .ensures)
+    ∙ ap (λ (y : List ℕ). chain F y (cut (ctr F 3 front 1 (a .c .now)))) (after-halves-from .halves-from .ensures)
 
 pub chain-opened-spec : {M : Type 1} → statement M
 chain-opened-spec =

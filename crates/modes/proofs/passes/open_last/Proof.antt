@@ -18,11 +18,14 @@ returns c =
 
 returns-2 : tie.Need-returns-2
 returns-2 c =
-    let start = c .before .before .before .before .before .before .before in
+    let after-encrypt = c .before .before .before in
+    let after-counter-block = after-encrypt .before in
+    let else1 = after-counter-block .before in
+    let start = else1 .before .before in
     let a = start .args in
     let F = cipher (a .ks .now) in
-    opened-last F (cipher-length (a .ks .now)) 3 (frontOf false (a .base)) (a .y) (a .c .now) (a .k) (c .before .before .before .before .before .if1 .left) (omega arith)
-    (c .before .before .before .encrypt .ensures .by-cipher (start .pre .0) ∙ ap F (c .before .before .before .before .counter-block .ensures)) (c .before .before .summed .ensures)
+    opened-last F (cipher-length (a .ks .now)) 3 (frontOf false (a .base)) (a .y) (a .c .now) (a .k) (else1 .if1 .left) (omega arith)
+    (after-encrypt .encrypt .ensures .by-cipher (start .pre .0) ∙ ap F (after-counter-block .counter-block .ensures)) (c .before .before .summed .ensures)
     (c .before .xor-blocks .ensures) (c .encrypt2 .ensures .by-cipher (start .pre .0))
 
 pub open-last-spec : {M : Type 1} → statement M

@@ -8,7 +8,9 @@ use Rattle.modes.proofs.passes.renewed.Statement.{statement}
 use Rattle.modes.proofs.passes.renewed.Tie as tie
 
 returns-2 : tie.Need-returns-2
-returns-2 c = let start = c .before in serves-also (start .pre .2) (start .args .k + 1) (omega arith)
+returns-2 c =
+    let start = c .before in
+    serves-also (start .pre .2) (start .args .k + 1) (omega arith)
 
 pub renewed-spec : {M : Type 1} → statement M
 renewed-spec =

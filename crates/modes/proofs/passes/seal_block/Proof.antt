@@ -14,14 +14,19 @@ use Rattle.modes.proofs.passes.seal_block.Tie as tie
 
 returns : tie.Need-returns
 returns c =
-    let start = c .before .before .before .before .before .before .before .before .before .before in
+    let after-add-at = c .before .before .before in
+    let after-encrypt-beside = after-add-at .before .before in
+    let after-add-halves = after-encrypt-beside .before in
+    let after-halves-at = after-add-halves .before in
+    let start = after-halves-at .before .before .before in
     let a = start .args in
-    let sum = c .before .before .before .before .before .before .add-halves in
-    let both = c .before .before .before .before .before .encrypt-beside .ensures in (
+    let sum = after-add-halves .add-halves in
+    let both = after-encrypt-beside .encrypt-beside .ensures in (
       both .0
           ∙ ready-cipher (a .t .now) (a .ks .now) (halvesBlock (sum .result)) (start .pre .0) (halves-bytes (sum .result)) (halves-length (sum .result))
-          ∙ ap (cipher (a .ks .now)) (sum .ensures ∙ ap (xors (halvesBlock (a .y))) (c .before .before .before .before .before .before .before .halves-at .ensures ∙ block-at-whole (a .p .now) (a .at) (start .pre .1))),
-      c .before .before .before .add-at .ensures
+          ∙ ap (cipher (a .ks .now))
+          (sum .ensures ∙ ap (xors (halvesBlock (a .y))) (after-halves-at .halves-at .ensures ∙ block-at-whole (a .p .now) (a .at) (start .pre .1))),
+      after-add-at .add-at .ensures
           ∙ ap (λ (b : List ℕ). take (a .at) (a .out .now) ++ (xors (take 16 (drop (a .at) (a .p .now))) b ++ drop 16 (drop (a .at) (a .out .now)))) (both .1),
     )
 

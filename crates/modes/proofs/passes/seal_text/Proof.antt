@@ -30,26 +30,36 @@ abbrev μ-loop : tie.MeasureT-loop
 μ-loop t ks base p out₀ n h₀ at₀ k₀ s₀ out h at k s = length p - at
 
 start-at-requires : tie.Need-start-at-requires Inv-loop μ-loop
-start-at-requires c κs = c .before .before .before .pre .0
+start-at-requires c κs =
+    let start = c .before .before .before in
+    start .pre .0
 
 loop-holds : tie.Need-loop-holds Inv-loop μ-loop
 loop-holds c = (c .start-at .ensures, refl, partly-start)
 
 seal-block-requires : tie.Need-seal-block-requires Inv-loop μ-loop
 seal-block-requires c κs =
-    let more = block-within (c .before .before .loop .at) (length (c .before .before .before .before .before .before .before .args .p .now)) (c .before .loop-test .taken) in (c .before .before .before .before .before .before .before .pre .0, more, partly-room (c .before .before .loop .inv .2) (c .before .before .before .before .before .before .before .pre .1) more)
+    let at-loop = c .before .before in
+    let start = at-loop .before .before .before .before .before in
+    let more = block-within (at-loop .loop .at) (length (start .args .p .now)) (c .before .loop-test .taken) in
+    (start .pre .0, more, partly-room (at-loop .loop .inv .2) (start .pre .1) more)
 
 renewed-requires : tie.Need-renewed-requires Inv-loop μ-loop
 renewed-requires c κs =
-    let l = c .before .before .before .before .before .loop in (c .before .before .before .before .before .before .before .before .before .before .pre .0, omega (arith, l .inv .2 .counted, c .before .before .before .before .before .before .before .before .before .before .pre .2), l .inv .0)
+    let at-loop = c .before .before .before .before .before in
+    let start = at-loop .before .before .before .before .before in
+    let l = at-loop .loop in (start .pre .0, omega (arith, l .inv .2 .counted, start .pre .2), l .inv .0)
 
 loop-again : tie.Need-loop-again Inv-loop μ-loop
 loop-again c =
-    let start = c .before .before .before .before .before .before .before .before .before .before .before in
+    let after-seal-block = c .before .before .before in
+    let in-loop = after-seal-block .before .before in
+    let at-loop = in-loop .before in
+    let start = at-loop .before .before .before .before .before in
     let a = start .args in
-    let l = c .before .before .before .before .before .before .loop in
-    let sealed = c .before .before .before .seal-block .ensures in
-    let more = block-within (c .before .before .before .before .before .before .loop .at) (length (c .before .before .before .before .before .before .before .before .before .before .before .args .p .now)) (c .before .before .before .before .before .loop-test .taken) in
+    let l = at-loop .loop in
+    let sealed = after-seal-block .seal-block .ensures in
+    let more = block-within (at-loop .loop .at) (length (start .args .p .now)) (in-loop .loop-test .taken) in
     let F = cipher (a .ks .now) in (
       c .renewed .ensures,
       ap (λ (y : List ℕ). chain F y (cut (drop (l .at + 16) (a .p .now)))) (sealed .0) ∙ chain-turn F (halvesBlock (l .h)) (a .p .now) (l .at) more ∙ l .inv .1,
@@ -58,19 +68,25 @@ loop-again c =
 
 seal-last-requires : tie.Need-seal-last-requires Inv-loop μ-loop
 seal-last-requires c κs =
-    let left = partly-rest (c .before .before .before .before .loop .inv .2) (c .before .before .before .before .before .before .before .before .before .pre .1) in (c .before .before .before .before .before .before .before .before .before .pre .0, omega (arith, left .0), left .1)
+    let at-loop = c .before .before .before .before in
+    let start = at-loop .before .before .before .before .before in
+    let left = partly-rest (at-loop .loop .inv .2) (start .pre .1) in
+    (start .pre .0, omega (arith, left .0), left .1)
 
 returns : tie.Need-returns Inv-loop μ-loop
 returns c =
-    let start = c .before .before .before .before .before .before .before .before .before .before .before .before in
+    let after-block = c .before .before .before .before .before in
+    let at-loop = after-block .before .before in
+    let after-halves-from = at-loop .before .before in
+    let start = after-halves-from .before .before .before in
     let a = start .args in
-    let l = c .before .before .before .before .before .before .before .loop in
+    let l = at-loop .loop in
     let last = c .before .before .seal-last .ensures in
     let F = cipher (a .ks .now) in (
       last .0
-          ∙ ap₂ (λ (y s : List ℕ). chain F y (cut s)) (c .before .before .before .before .before .block .ensures) (rest-all (a .p .now) (l .at))
+          ∙ ap₂ (λ (y s : List ℕ). chain F y (cut s)) (after-block .block .ensures) (rest-all (a .p .now) (l .at))
           ∙ l .inv .1
-          ∙ ap (λ (y : List ℕ). chain F y (cut (a .p .now))) (c .before .before .before .before .before .before .before .before .before .halves-from .ensures),
+          ∙ ap (λ (y : List ℕ). chain F y (cut (a .p .now))) (after-halves-from .halves-from .ensures),
       partly-last (l .inv .2) (start .pre .1) (cipher-length (a .ks .now)) (last .1),
     )
 
