@@ -46,7 +46,7 @@ module _ (line : List ℕ) where
   abbrev pub nameBegins : List ℕ → Bool
   nameBegins front = begins front (wordAt line 0)
 
-  -- the Monte Carlo test: "each output the next input"
+  -- the Monte Carlo test (tests/vectors/README.md): "each output the next input"
   abbrev pub runs : ℕ
   runs = when (nameBegins monteCarlo) 1000 1
 

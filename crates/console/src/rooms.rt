@@ -37,7 +37,7 @@ pub(crate) fn record_room() -> [u8; 1048660]
     [0; 1048660]
 }
 
-// A record or a label to be judged: by its layout a long one is 2 or 4, so that one byte more would not do.
+// A record or a label to be judged: by its layout a long one is 2, 3 or 4, so that one byte more would not do.
 pub(crate) fn long_room() -> [u8; 4194304]
     ensures { λ r. ⌜ 4194304 ≡ length r ⌝ }
 {

@@ -1,4 +1,4 @@
--- What descriptor lists, steps and labels promise, as statements; proofs/Laws.antt proves each.
+-- What descriptor lists, steps and labels promise, as statements; proofs/Laws.antt, Rising.antt, Whole.antt and Unique.antt prove them.
 -- Assumes nothing.
 use mathlib.Core.Path.{_≡_}
 use mathlib.Core.Logic.{_↔_}

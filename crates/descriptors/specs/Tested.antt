@@ -34,7 +34,7 @@ splitOk label strict least p = every (splitTests label strict least p)
 abbrev pub listOk : Bool → Bool → List ℕ → Bool
 listOk label strict s = splitOk label strict 0 (split s)
 
--- "Reserved types are passed over and not counted"
+-- "Reserved types .. are passed over and not counted"
 unfoldable pub unreserved : Bool → List (List ℕ) → List (List ℕ)
 unreserved label [] = []
 unreserved label (d ∷ ds) = when (isReserved label (typeOf d)) (unreserved label ds) (d ∷ unreserved label ds)

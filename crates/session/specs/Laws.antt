@@ -1,4 +1,4 @@
--- What a session promises, as statements; proofs/Laws.antt proves each.
+-- What a session promises, as statements; proofs/Laws.antt and proofs/Runs.antt prove them.
 -- Assumes nothing.
 use mathlib.Core.Path.{_≡_}
 use mathlib.Core.Bool.{true, false}

@@ -1,4 +1,4 @@
-// The C interface (include/spadeswirl.h): one thin exported function for each public call, with the statement of the call below it.
+// The C interface: one thin exported function for each call of include/spadeswirl.h, with the statement of the call below it.
 pub mod block;
 pub mod ivs;
 pub mod lists;
