@@ -9,13 +9,7 @@ use crate::saying::write_out;
 use crate::taking::take_file;
 use crate::taking::take_optional;
 use crate::taking::take_word;
-use octets::big_endian::read32;
 use octets::strings::part;
-
-// The place of the tag's offset in a record, and the bytes of a tag, which is the last thing in it.
-const TAG_OFFSET_AT: usize = 20;
-
-const TAG_SIZE: usize = 16;
 
 fn seal_bytes(table: &[u8], name: &[u8], iv: &[u8], associated: &[u8], plain: &[u8]) {
     let mut out = record_room();
@@ -24,7 +18,7 @@ fn seal_bytes(table: &[u8], name: &[u8], iv: &[u8], associated: &[u8], plain: &[
         refuse(number);
         return;
     }
-    let end = read32(&out, TAG_OFFSET_AT) + TAG_SIZE;
+    let end = record::header::end_in(&out);
     write_out(part(&out, 0, end));
 }
 

@@ -25,7 +25,10 @@ use Rattle.record.proofs.Numbers.{key-size}
 
 -- the header byte by byte, v being the length of the mode's IV
 pub header-bytes : (u k n v : ℕ) → v ≡ modeOf u .ivSize
-    → 0 ∷ 1 ∷ u ∷ 0 ∷ n / 16777216 % 256 ∷ n / 65536 % 256 ∷ n / 256 % 256 ∷ n % 256 ∷ 0 ∷ 24 ∷ k / 256 % 256 ∷ k % 256 ∷ (24 + k) / 256 % 256 ∷ (24 + k) % 256 ∷ v / 256 % 256 ∷ v % 256 ∷ (24 + k + v) / 16777216 % 256 ∷ (24 + k + v) / 65536 % 256 ∷ (24 + k + v) / 256 % 256 ∷ (24 + k + v) % 256 ∷ (24 + k + v + n) / 16777216 % 256 ∷ (24 + k + v + n) / 65536 % 256 ∷ (24 + k + v + n) / 256 % 256 ∷ (24 + k + v + n) % 256 ∷ []
+    → 0 ∷ 1 ∷ u ∷ 0 ∷ n / 16777216 % 256 ∷ n / 65536 % 256 ∷ n / 256 % 256 ∷ n % 256 ∷ 0 ∷ 24 ∷ k / 256 % 256 ∷ k % 256
+    ∷ (24 + k) / 256 % 256 ∷ (24 + k) % 256 ∷ v / 256 % 256 ∷ v % 256
+    ∷ (24 + k + v) / 16777216 % 256 ∷ (24 + k + v) / 65536 % 256 ∷ (24 + k + v) / 256 % 256 ∷ (24 + k + v) % 256
+    ∷ (24 + k + v + n) / 16777216 % 256 ∷ (24 + k + v + n) / 65536 % 256 ∷ (24 + k + v + n) / 256 % 256 ∷ (24 + k + v + n) % 256 ∷ []
     ≡ header u k n
 unfolding header
 header-bytes u k n v e = rw (← e, div-one n, div-one k, div-one (24 + k), div-one v, div-one (24 + k + v), div-one (24 + k + v + n))

@@ -13,12 +13,12 @@ use Rattle.octets.proofs.Lent.{over-injective}
 use Rattle.octets.proofs.Unique.{unique, unique-by}
 use Rattle.keytable.specs.Row.{useOf, keyOf}
 use Rattle.keytable.specs.Table.{tableOk, dataRow}
-use Rattle.record.specs.Record.{nameIn, ivIn}
+use Rattle.record.specs.Record.{endIn, nameIn, ivIn}
 use Rattle.record.specs.Read.{headerSays, readNumber, readAnswer}
 use Rattle.record.specs.Seal.{sealAnswer}
 use Rattle.record.specs.Open.{plaintextBy, openNumber, openAnswer}
 use Rattle.record.specs.Demand3.{Refuses, OpensExactly, OnePlaintext, OneOpening, ElseRefuses, SealedOpens}
-use Rattle.record.specs.Laws.{HeaderThere, HeaderBack, SealsInRange, SealsOnlyInRange, SealOtherRows, OpenOtherRows, SealEarlier, NextEarlier, OpenEarlier, ReadUnique, CheckUnique, SealUnique, OpenUnique, ReadTestsRise, SealTestsRise, TagTestsRise, OpenTestsRise}
+use Rattle.record.specs.Laws.{HeaderThere, HeaderBack, SealsInRange, SealsOnlyInRange, SealOtherRows, OpenOtherRows, SealEarlier, NextEarlier, OpenEarlier, ReadUnique, EndUnique, CheckUnique, SealUnique, OpenUnique, ReadTestsRise, SealTestsRise, TagTestsRise, OpenTestsRise}
 use Rattle.record.specs.declared.header.Header.{Header}
 use Rattle.record.specs.declared.header.Header.the-variants.{Fields, BadForm, BadMode, TooLong}
 use Rattle.record.proofs.Written.{read-back, front-back}
@@ -140,6 +140,9 @@ headerIn-says TooLong = refl
 
 pub read-unique : ReadUnique
 read-unique r = unique-by headerSays headerIn headerIn-says (readAnswer r)
+
+pub end-unique : EndUnique
+end-unique r = unique (endIn r)
 
 pub check-unique : CheckUnique
 check-unique r = unique (readNumber r)

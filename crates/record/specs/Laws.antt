@@ -18,7 +18,7 @@ use Rattle.modes.specs.Modes.{namesMode, modeOf}
 use Rattle.session.specs.Iv.{isSpent, ivOf, after}
 use Rattle.session.specs.Calls.{Answer, sessionAfter}
 use Rattle.session.specs.declared.Session.{Session}
-use Rattle.record.specs.Record.{modeIn, countIn, nameSize, layoutOk, frontIn, nameIn, ivIn, front}
+use Rattle.record.specs.Record.{modeIn, countIn, nameSize, endIn, layoutOk, frontIn, nameIn, ivIn, front}
 use Rattle.record.specs.Read.{readTests, headerSays, readNumber, readAnswer}
 use Rattle.record.specs.Seal.{callersMax, recordOf, sealedSize, sealTests, sealAnswer}
 use Rattle.record.specs.Open.{tagTests, openTests, openAnswer}
@@ -176,6 +176,9 @@ RecordsDiffer =
 
 abbrev pub ReadUnique : Type 0
 ReadUnique = (r : List ℕ) → UniqueBy headerSays (readAnswer r)
+
+abbrev pub EndUnique : Type 0
+EndUnique = (r : List ℕ) → Unique (endIn r)
 
 abbrev pub CheckUnique : Type 0
 CheckUnique = (r : List ℕ) → Unique (readNumber r)

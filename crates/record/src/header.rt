@@ -17,7 +17,7 @@ ghost use lib.ListN.{length, replicate};
 ghost use Rattle.octets.specs.Lent.{over};
 ghost use Rattle.keytable.specs.Row.{nameMax};
 ghost use Rattle.modes.specs.Calls.{textMax};
-ghost use Rattle.record.specs.Record.{modeIn, layoutOk, header, front};
+ghost use Rattle.record.specs.Record.{modeIn, endIn, layoutOk, header, front};
 ghost use Rattle.record.specs.Read.{passes, headerSays, readNumber, readAnswer};
 
 // What reading a record's header finds.
@@ -46,6 +46,17 @@ fn tag_place(text: usize, n: usize) -> usize
     text + n
 }
 
+// The end that a record's own header gives, whether or not the record reaches so far.
+pub fn end_in(r: &[u8]) -> usize
+    ensures { λ e. ⌜ e ≡ endIn (now (r .entry)) ⌝ }
+{
+    let mode = mode_in(r);
+    let k = read16(r, 10);
+    let text_at = NAME_AT + k + iv_size(mode);
+    let tag_at = tag_place(text_at, read32(r, 4));
+    tag_at + tag_size(mode)
+}
+
 // Whether the header's words and the record's end keep to the layout.
 fn layout_ok(r: &[u8]) -> bool
     ensures { λ ok. ⌜ ok ≡ layoutOk (now (r .entry)) ⌝ }
@@ -57,7 +68,7 @@ fn layout_ok(r: &[u8]) -> bool
     let iv_at = NAME_AT + k;
     let text_at = iv_at + iv_long;
     let tag_at = tag_place(text_at, n);
-    let end_at = tag_at + tag_size(mode);
+    let end_at = end_in(r);
     (read16(r, 0) == RECORD_FORMAT)
         & (read8(r, 3) == 0)
         & (read16(r, 8) == NAME_AT)

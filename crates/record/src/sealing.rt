@@ -36,7 +36,8 @@ pub(crate) enum Ready {
 
 // Writes the record of a use and a key.
 fn fill(u: u8, key: &[u8], name: &[u8], iv: &[u8], aad: &[u8], plain: &[u8], out: &mut [u8])
-    requires { ⌜ (length (now key) ≡ keySize) × (length (now name) ≤ nameMax) × (length (now iv) ≡ modeOf u .ivSize) × (modeOf u .permits (length (now plain)) ≡ true) × (length (now aad) ≤ callersMax) × (length (now plain) ≤ textMax) × (endAt (modeOf u) (length (now name)) (length (now plain)) ≤ length (now out)) ⌝ }
+    requires { ⌜ (length (now key) ≡ keySize) × (length (now name) ≤ nameMax) × (length (now iv) ≡ modeOf u .ivSize)
+        × (modeOf u .permits (length (now plain)) ≡ true) × (length (now aad) ≤ callersMax) × (length (now plain) ≤ textMax) × (endAt (modeOf u) (length (now name)) (length (now plain)) ≤ length (now out)) ⌝ }
     ensures { λ _. ⌜ now (out .exit) ≡ over (recordOf u (now (key .entry)) (now (name .entry)) (now (iv .entry)) (now (aad .entry)) (now (plain .entry))) (now (out .entry)) ⌝ }
 {
     let room = front_of(u, name, plain.len());

@@ -2,7 +2,7 @@
 -- Assumes nothing.
 use native.Mathlib.Omega.{arith}
 use borrow.Author.Needs.{needs}
-use Rattle.record.proofs.Numbers.{iv-small, tag-small}
+use Rattle.record.proofs.Numbers.{iv-small}
 use Rattle.record.proofs.Parts.{layout-tested}
 use Rattle.record.proofs.header.layout_ok.Statement.{statement}
 use Rattle.record.proofs.header.layout_ok.Tie as tie
@@ -12,9 +12,6 @@ add-text-at c = omega (arith, iv-small (c .before .before .before .mode-in .resu
 
 tag-place-requires : tie.Need-tag-place-requires
 tag-place-requires c κs = omega (arith, iv-small (c .before .before .before .mode-in .result), c .before .before .iv-size .ensures)
-
-add-end-at : tie.Need-add-end-at
-add-end-at c = omega (arith, tag-small (c .before .before .before .before .before .mode-in .result), c .tag-size .ensures)
 
 returns : tie.Need-returns
 returns c =
@@ -30,7 +27,7 @@ returns c =
     let m = k .before in
     let v = m .before in
     layout-tested _ _ _ _ _ _ _ _ _ _ _ _ _ _
-    (v .before .mode-in .ensures) (v .iv-size .ensures) (m .read32 .ensures .0) (k .read16 .ensures .0) (t .tag-place .ensures .0) (g .tag-size .ensures)
+    (v .before .mode-in .ensures) (v .iv-size .ensures) (m .read32 .ensures .0) (k .read16 .ensures .0) (t .tag-place .ensures .0) (g .end-in .ensures)
     (o .read162 .ensures .0) (z .read8 .ensures .0) (n .read163 .ensures .0) (d .read164 .ensures .0) (e .read165 .ensures .0) (f .read322 .ensures .0) (c .read323 .ensures .0)
 
 pub layout-ok-spec : {M : Type 1} → statement M
@@ -45,7 +42,6 @@ layout-ok-spec =
     add-text-at
     tag-place-requires
     (λ c κs. search needs)
-    add-end-at
     (λ c κs. search needs)
     (λ c κs. search needs)
     (λ c κs. search needs)
