@@ -21,9 +21,10 @@ use Rattle.octets.proofs.Xor.{length-xors, xors-cancel}
 use Rattle.octets.proofs.Same.{same-equal, same-refl, same-differ}
 use Rattle.octets.proofs.Blocks.{cut-next, chain-append, length-chain}
 use Rattle.octets.proofs.Running.{absorb-append, close-chain}
-use Rattle.modes.specs.Calls.{tagTests}
-use Rattle.modes.specs.Counter.{counterBlock, ctr, frontOf}
+use Rattle.modes.specs.Calls.{textMax, tagTests}
+use Rattle.modes.specs.Counter.{counterBlock, ctr, counterAnswer, frontOf}
 use Rattle.modes.specs.Ccm.{flags, firstBlock, dataBlocks, mac, front, firstPad, text, tagOf, tagRight}
+use Rattle.modes.proofs.Limits.{counterFits-three, counterAnswer-fits}
 use Rattle.modes.proofs.Stream.{length-ctr, ctr-ctr, bytes-ctr}
 use Rattle.octets.proofs.Lent.{over-fits, over-then}
 
@@ -160,16 +161,18 @@ module _ (f : List ℕ → List ℕ) (size : (x : List ℕ) → length (f x) ≡
       (es ∙ ap (λ (t : List ℕ). over t (take (length out₁ - length p) (drop (length p) out₁))) (tag-steps p ey ez et))))
 
   -- the tag of the plaintext that a ciphertext gives decides, and then its text is written
-  pub opened-steps : (c t out : List ℕ) {y z right : List ℕ} {n : ℕ} {x : ℕ × List ℕ} → length t ≡ 16
+  pub opened-number : (c t : List ℕ) {y z right : List ℕ} {n : ℕ} → length t ≡ 16
       → y ≡ chain f (f (firstBlock (drop 1 (frontOf false base)) a (length c))) (dataBlocks a) → z ≡ chain f y (cut (ctr f 3 (frontOf false base) 1 c))
-      → right ≡ xors z (f (counterBlock 3 (frontOf false base) 0)) → n ≡ lowest (tagTests (same t right))
-      → answer n (ctr f 3 (frontOf false base) 1 c) out ≡ x → answer (lowest (tagTests (tagRight f iv a c t))) (text f iv c) out ≡ x
-  opened-steps c t out {y} {right = right} ht ey ez er en e =
-      ap₂ (λ (k : ℕ) (s : List ℕ). answer k s out)
-      (ap (λ (b : Bool). lowest (tagTests b)) (tagRight-same f size iv a c t ht ∙ ap (same t) (sym whole)) ∙ sym en) (text-counted c)
-      ∙ e
+      → right ≡ xors z (f (counterBlock 3 (frontOf false base) 0)) → n ≡ lowest (tagTests (same t right)) → n ≡ lowest (tagTests (tagRight f iv a c t))
+  opened-number c t {y} {right = right} ht ey ez er en = en ∙ ap (λ (b : Bool). lowest (tagTests b)) (ap (same t) whole ∙ sym (tagRight-same f size iv a c t ht))
     where
       whole : right ≡ tagOf f iv a (text f iv c)
       whole =
           tag-steps (text f iv c) (ey ∙ ap (λ (n : ℕ). chain f (f (firstBlock (drop 1 (frontOf false base)) a n)) (dataBlocks a)) (sym (length-text f size iv c)))
           (ez ∙ ap (λ (s : List ℕ). chain f y (cut s)) (sym (text-counted c))) er
+
+  pub text-written : (c out : List ℕ) {x : ℕ × List ℕ} → length c ≤ textMax → counterAnswer f 3 (frontOf false base) 1 c out ≡ x → answer 0 (text f iv c) out ≡ x
+  text-written c out short ran =
+      ap (λ (s : List ℕ). (0, over s out)) (text-counted c)
+      ∙ sym (counterAnswer-fits f 3 (frontOf false base) 1 c out (counterFits-three 1 (length c) (lit≤ tt) short))
+      ∙ ran

@@ -3,15 +3,14 @@
 use mathlib.Core.Path.{_≡_, sym, ap, ap₂, _∙_}
 use mathlib.Core.Bool.{Bool, true, false}
 use mathlib.Core.List.{List, [], _∷_, _++_, append-assoc}
-use Prim.Native.Nat.{ℕ, suc, _+_, _*_, _/_, _%_, _≤_}
+use Prim.Native.Nat.{ℕ, suc, _+_, _/_, _%_}
 use native.Mathlib.Nat.{mod-lt}
 use native.Mathlib.Omega.{arith}
 use lib.Dec.{lit<}
-use lib.ListN.{length, getD, take, length-append}
+use lib.ListN.{length, take, length-append}
 use lib.Seq.{take-at, length-take-le}
 use Rattle.octets.specs.Bytes.{Bytes}
 use Rattle.octets.specs.BigEndian.{be}
-use Rattle.octets.specs.Xor.{xors}
 use Rattle.octets.proofs.BigEndian.{length-be, be-last}
 use Rattle.aes.specs.State.{State}
 use Rattle.aes.specs.Cipher.{cipher}
@@ -20,9 +19,8 @@ use Rattle.aes_fast.specs.Right.{Ready}
 use Rattle.aes_fast.specs.Start.{withLast, startBy, cipherFrom}
 use Rattle.aes_fast.specs.declared.start.Start.{Start}
 use Rattle.aes_fast.proofs.Laws.{from-start}
-use Rattle.modes.specs.Counter.{counterBlock, ctr, width, frontOf}
-use Rattle.modes.specs.Pads.{padOf, Sized, Serves}
-use Rattle.modes.proofs.Stream.{ctr-last, ctr-same}
+use Rattle.modes.specs.Counter.{counterBlock, width, frontOf}
+use Rattle.modes.specs.Pads.{Serves}
 
 -- ---- the last byte of a counter block
 
@@ -43,13 +41,6 @@ counterBlock-last false base j k size same = block-last 2 (take 13 base) j k (om
 
 -- ---- a start
 
-module _ (t : Tables) (ks : List State) where
-  pub pad-counter : (s : Start) (j : ℕ) → padOf t ks s (counterBlock 1 [] j) ≡ cipherFrom t ks s (j % 256)
-  pad-counter s j = ap (cipherFrom t ks s) low
-    where
-      low : j / 1 % 256 % 256 ≡ j % 256
-      low = omega arith
-
 module _ {t : Tables} {ks : List State} where
   pub start-serves : Ready t ks → (wide : Bool) (base b : List ℕ) (s : Start) (k : ℕ) → length base ≡ 16 → Bytes b → length b ≡ 16
       → b ≡ counterBlock (width wide) (frontOf wide base) k → s ≡ startBy t ks b → Serves t ks (width wide) (frontOf wide base) s k
@@ -66,28 +57,3 @@ module _ {t : Tables} {ks : List State} where
     -- for another counter of the same group
     pub serves-also : (j : ℕ) → j / 256 ≡ k / 256 → Serves t ks w front s j
     serves-also j same = record { pads = λ i e. serves .pads i (e ∙ same) }
-
-    -- its pads have 16 bytes, as the counter's last byte runs through the group
-    pub serves-sized : ((x : List ℕ) → length (cipher ks x) ≡ 16) → Sized (padOf t ks s)
-    serves-sized size x =
-        ap (λ (n : ℕ). length (cipherFrom t ks s n)) (last (getD x 0 0)) ∙ ap length (serves .pads (member (getD x 0 0)) (same (getD x 0 0))) ∙ size _
-      where
-        member : ℕ → ℕ
-        member n = k / 256 * 256 + n % 256
-
-        last : (n : ℕ) → n % 256 ≡ member n % 256
-        last n = omega arith
-
-        same : (n : ℕ) → member n / 256 ≡ k / 256
-        same n = omega arith
-
-    -- and they are those of a text whose counters, from k on, stay within the group
-    pub serves-text : (text : List ℕ) → length text + 16 * (k % 256) ≤ 4096 → ctr (padOf t ks s) 1 [] k text ≡ ctr (cipher ks) w front k text
-    serves-text text fits = ctr-same (padOf t ks s) (cipher ks) 1 w [] front k text (λ j le lt. pad-counter t ks s j ∙ serves .pads j (omega arith))
-
--- ---- a block or less with the pad of counter j, modulo 256
-
-module _ (t : Tables) (ks : List State) (s : Start) (size : Sized (padOf t ks s)) (j : ℕ) (text : List ℕ) where
-  pub single-added : {pad out : List ℕ} → length text ≤ 16 → pad ≡ cipherFrom t ks s (j % 256) → out ≡ xors text pad → out ≡ ctr (padOf t ks s) 1 [] j text
-  single-added short ep is =
-      is ∙ ap (xors text) (ep ∙ sym (pad-counter t ks s j)) ∙ sym (ctr-last (padOf t ks s) size 1 [] j text short)

@@ -1,9 +1,9 @@
--- The counter block as the code writes it, groups of counters, and the tests of lengths and of the counter field.
+-- The counter block as the code writes it, what blocks and counters come next, and the tests of lengths and of the counter field.
 -- Assumes nothing.
 use mathlib.Core.Path.{_≡_, refl, ap, ap₂, _∙_}
 use mathlib.Core.Bool.{Bool, true, false, not}
 use mathlib.Core.List.{List, [], _∷_, _++_, append-nil}
-use Prim.Native.Nat.{ℕ, _+_, _-_, _*_, _/_, _%_, _^_, _≤_, _<_}
+use Prim.Native.Nat.{ℕ, _+_, _-_, _*_, _/_, _%_, _^_, _≤_, _<_, min}
 use native.Mathlib.Nat.{div-one}
 use native.Mathlib.Omega.{arith}
 use borrow.Author.Tests.{leb-true, leb-false, lt-ltb, le-ltb, le-leb}
@@ -40,14 +40,7 @@ module _ (base : List ℕ) (i : ℕ) (size : length base ≡ 16) where
       ∙ take-set-le 12 base 13 (i / 65536 % 256) (lit≤ tt))
       (ap (drop 13) narrow-stored ∙ drop-at (take 13 base) (i / 65536 % 256 ∷ i / 256 % 256 ∷ i % 256 ∷ []) 13 (length-take-le 13 base (omega arith))))
 
--- ---- groups of counters that differ in the last byte alone, and blocks that are left from place `at` on
-
-module _ (k : ℕ) where
-  pub group-some : 0 < 256 - k % 256
-  group-some = omega arith
-
-  pub group-fits : (n : ℕ) → n ≤ 16 * (256 - k % 256) → n + 16 * (k % 256) ≤ 4096
-  group-fits n h = omega arith
+-- ---- blocks that are left from place `at` on, and pairs of counters
 
 module _ (at n : ℕ) where
   pub block-within : 16 ≤ n - at → at + 16 ≤ n
@@ -55,6 +48,38 @@ module _ (at n : ℕ) where
 
   pub pair-within : 32 ≤ n - at → (at + 16 ≤ n) × (at + 16 + 16 ≤ n)
   pair-within h = (omega arith, omega arith)
+
+module _ (k : ℕ) (even : k % 2 ≡ 0) where
+  pub pair-even : (k + 1 + 1) % 2 ≡ 0
+  pair-even = omega arith
+
+  pub pair-same : (k + 1) / 256 ≡ k / 256
+  pair-same = omega arith
+
+-- a first part of b bytes, or all n that there are
+module _ (b n : ℕ) {h : ℕ} (is : h ≡ min b n) where
+  pub least-inside : h ≤ n
+  least-inside = omega arith
+
+  pub least-short : h ≤ b
+  least-short = omega arith
+
+  pub least-whole : h < n → h ≡ b
+  least-whole less = omega arith
+
+  pub least-left : n < b + b → n - h ≤ b
+  least-left less = omega arith
+
+-- a block first where the counter i is odd: then it is even
+module _ (i : ℕ) where
+  pub odd-one : (h : ℕ) → i % 2 ≤ h + 1
+  odd-one h = omega arith
+
+  pub odd-block : 16 * (i % 2) ≤ 16
+  odd-block = omega arith
+
+  pub odd-even : (i + i % 2) % 2 ≡ 0
+  odd-even = omega arith
 
 -- ---- tests
 

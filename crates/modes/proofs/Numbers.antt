@@ -33,11 +33,12 @@ lowest-passed (n ∷ ns) ts h none =
 
 -- ---- a number that is handed on with the output after it
 
-pub answer-none : (n : ℕ) (s out : List ℕ) {x : ℕ × List ℕ} → n ≡ 0 → (0, over s out) ≡ x → answer n s out ≡ x
-answer-none n s out e h = rw e h
+module _ (s out : List ℕ) {n m : ℕ} (is : n ≡ m) where
+  pub answer-refusal : (n ≡ 0 → ⊥) → answer m s out ≡ (n, out)
+  answer-refusal some = rw (← is) (answer-refused n s out (ne-eqb n 0 some))
 
-pub answer-other : (n : ℕ) (s out : List ℕ) → (n ≡ 0 → ⊥) → answer n s out ≡ (n, out)
-answer-other n s out some = answer-refused n s out (ne-eqb n 0 some)
+  pub answer-passed : {x : ℕ × List ℕ} → n ≡ 0 → answer 0 s out ≡ x → answer m s out ≡ x
+  answer-passed none e = ap (λ (k : ℕ). answer k s out) (sym is ∙ none) ∙ e
 
 -- ---- the arguments: what passing their tests says, and what passes them
 
@@ -77,11 +78,11 @@ module _ (m : Mode) (key iv a b p out : List ℕ) where
   module _ {n : ℕ} (tested : n ≡ lowest (encryptTests m key iv a b p (length out))) where
     pub encrypt-refused : (n ≡ 0 → ⊥) → encryptAnswer m key iv a b p out ≡ (n, out)
     unfolding encryptAnswer encryptNumber
-    encrypt-refused some = rw (← tested) (answer-other n (sealed m key iv (a ++ b) p) out some)
+    encrypt-refused = answer-refusal (sealed m key iv (a ++ b) p) out tested
 
     pub encrypt-done : n ≡ 0 → encryptAnswer m key iv a b p out ≡ answer 0 (sealed m key iv (a ++ b) p) out
     unfolding encryptAnswer encryptNumber
-    encrypt-done none = ap (λ (k : ℕ). answer k (sealed m key iv (a ++ b) p) out) (sym tested ∙ none)
+    encrypt-done none = answer-passed (sealed m key iv (a ++ b) p) out tested none refl
 
 -- ---- decryption
 
@@ -97,9 +98,8 @@ module _ (m : Mode) (key iv a b c t out : List ℕ) where
     pub decrypt-refused : (n ≡ 0 → ⊥) → decryptAnswer m key iv a b c t out ≡ (n, out)
     unfolding decryptAnswer decryptNumber
     decrypt-refused some =
-        ap (λ (k : ℕ). answer k (m .plaintext key iv c) out)
-        (lowest-refused (argumentTests wrong-any a b c (length c) (length out)) (tagTests (m .authentic key iv (a ++ b) c t)) (λ z. some (tested ∙ z)) ∙ sym tested)
-        ∙ answer-other n (m .plaintext key iv c) out some
+        answer-refusal (m .plaintext key iv c) out
+        (tested ∙ sym (lowest-refused (argumentTests wrong-any a b c (length c) (length out)) (tagTests (m .authentic key iv (a ++ b) c t)) (λ z. some (tested ∙ z)))) some
 
     -- the tag decides
     pub decrypt-done : n ≡ 0 → decryptAnswer m key iv a b c t out ≡ answer (lowest (tagTests (m .authentic key iv (a ++ b) c t))) (m .plaintext key iv c) out

@@ -1,9 +1,9 @@
 -- Counter mode, for any f whose every value has 16 bytes: its length, block by block, twice, and as the code writes it into an output.
 -- Assumes nothing.
-use mathlib.Core.Path.{_≡_, refl, sym, ap, ap₂, _∙_}
+use mathlib.Core.Path.{_≡_, refl, sym, ap, ap₂, subst, _∙_}
 use mathlib.Core.List.{List, [], _∷_, _++_, append-assoc, append-nil}
-use Prim.Native.Nat.{ℕ, zero, suc, _+_, _-_, _*_, _/_, _≤_, _<_, min}
-use native.Mathlib.Nat.{add-zero}
+use Prim.Native.Nat.{ℕ, zero, suc, _+_, _-_, _*_, _≤_, _<_}
+use native.Mathlib.Nat.{add-zero, sub-zero}
 use native.Mathlib.Numerals.{add-one}
 use native.Mathlib.Omega.{arith}
 use lib.ListN.{length, take, drop, length-append, length-take, length-drop, take-append-drop, drop-of-length-le}
@@ -96,20 +96,6 @@ module _ (f : List ℕ → List ℕ) (size : (x : List ℕ) → length (f x) ≡
         ap (λ (n : ℕ). xors (ctr f w front i s) (stream f (values (counterBlock w front) i (blocks n)))) (length-ctr i s)
         ∙ xors-cancel s (stream f (values (counterBlock w front) i (blocks (length s)))) (enough i s)
 
--- ---- the same counters, by another cipher and another front
-
-stream-same : (f g : List ℕ → List ℕ) (v w : ℕ) (front back : List ℕ) (i n : ℕ)
-    → ((k : ℕ) → i ≤ k → k < i + n → f (counterBlock v front k) ≡ g (counterBlock w back k))
-    → stream f (values (counterBlock v front) i n) ≡ stream g (values (counterBlock w back) i n)
-stream-same f g v w front back i zero h = refl
-stream-same f g v w front back i (suc n) h =
-    ap₂ (λ (a b : List ℕ). a ++ b) (h i (omega arith) (omega arith)) (stream-same f g v w front back (suc i) n (λ k le lt. h k (omega arith) (omega arith)))
-
-pub ctr-same : (f g : List ℕ → List ℕ) (v w : ℕ) (front back : List ℕ) (i : ℕ) (s : List ℕ)
-    → ((k : ℕ) → i ≤ k → k < i + blocks (length s) → f (counterBlock v front k) ≡ g (counterBlock w back k)) → ctr f v front i s ≡ ctr g w back i s
-unfolding ctr
-ctr-same f g v w front back i s h = ap (xors s) (stream-same f g v w front back i (blocks (length s)) h)
-
 -- ---- bytes, where the cipher makes bytes of bytes
 
 module _ (f : List ℕ → List ℕ) (bytes : (x : List ℕ) → Bytes x → Bytes (f x)) (w : ℕ) {front : List ℕ} (front-bytes : Bytes front) where
@@ -129,7 +115,7 @@ counter-twice f size w front i s = ctr-ctr f size w front i s
 pub record Partly (f : List ℕ → List ℕ) (w : ℕ) (front : List ℕ) (i : ℕ) (s before : List ℕ) (at k : ℕ) (out : List ℕ) : Type 0 where
   pub inside : at ≤ length s
   pub room : length out ≡ length before
-  pub counted : k ≤ i + at
+  pub counted : k ≤ i + 1 + at
   pub written : take at out ++ ctr f w front k (drop at s) ≡ ctr f w front i s
   pub kept : drop at out ≡ drop at before
 
@@ -141,14 +127,6 @@ module _ {f : List ℕ → List ℕ} {w : ℕ} {front : List ℕ} {i : ℕ} {s b
   pub partly-room : {at k e : ℕ} {out : List ℕ} → Partly f w front i s before at k out → length s ≤ length before → e ≤ length s → e ≤ length out
   partly-room p fits h = omega (arith, p .room)
 
-  -- b bytes of the text from there on, or all that there is, and the part of the output for them, as they are lent
-  pub partly-lent : {at k : ℕ} {out : List ℕ} → Partly f w front i s before at k out → length s ≤ length before → (b e : ℕ) → at < length s
-      → e ≡ at + min b (length s - at)
-      → (length (take (e - at) (drop at s)) ≤ b) × (length (take (e - at) (drop at out)) ≡ length (take (e - at) (drop at s)))
-  partly-lent {at} {k} {out} p fits b e less end =
-      let text = part-length s at e (omega arith) in
-      (omega (arith, text), part-length out at e (omega (arith, p .room)) ∙ sym text)
-
   -- all that is left
   pub partly-rest : {at k : ℕ} {out : List ℕ} → Partly f w front i s before at k out → length s ≤ length before
       → (length (take (length s - at) (drop at s)) ≡ length s - at) × (length (take (length s - at) (drop at out)) ≡ length (take (length s - at) (drop at s)))
@@ -158,14 +136,14 @@ module _ {f : List ℕ → List ℕ} {w : ℕ} {front : List ℕ} {i : ℕ} {s b
 
   module _ {at k : ℕ} {out : List ℕ} (p : Partly f w front i s before at k out) (fits : length s ≤ length before) (size : (x : List ℕ) → length (f x) ≡ 16) where
     -- m blocks more, or all that there is, up to place e
-    pub partly-turn : (m e : ℕ) {ys : List ℕ} → at + m ≤ e → e ≤ length s → (e < length s → e ≡ at + 16 * m)
+    pub partly-turn : (m e : ℕ) {ys : List ℕ} → at ≤ e → k + m ≤ i + 1 + e → e ≤ length s → (e < length s → e ≡ at + 16 * m)
         → ys ≡ ctr f w front k (take (e - at) (drop at s))
         → Partly f w front i s before e (k + m) (take at out ++ (ys ++ drop (e - at) (drop at out)))
-    partly-turn m e {ys} more le whole is =
+    partly-turn m e {ys} more counts le whole is =
         record {
           inside = le;
           room = back-length out ys at e (omega arith) (omega (arith, p .room)) sized ∙ p .room;
-          counted = omega (arith, p .counted);
+          counted = counts;
           written =
               ap (λ (l : List ℕ). l ++ ctr f w front (k + m) (drop e s)) (back-take out ys at e (omega arith) (omega (arith, p .room)) sized)
               ∙ append-assoc (take at out) ys (ctr f w front (k + m) (drop e s))
@@ -218,7 +196,7 @@ module _ {f : List ℕ → List ℕ} {w : ℕ} {front : List ℕ} {i : ℕ} {s b
         → after ≡ take at out ++ (xors (take 16 (drop at s)) pad ++ drop 16 (drop at out)) → Partly f w front i s before (at + 16) (k + 1) after
     partly-block {pad} {after} more ep is =
         rw (is ∙ ap (λ (n : ℕ). take at out ++ (xors (take 16 (drop at s)) pad ++ drop n (drop at out))) (sym one))
-        (partly-turn 1 (at + 16) (omega arith) more (λ h. refl)
+        (partly-turn 1 (at + 16) (omega arith) (omega (arith, p .counted)) more (λ h. refl)
         (ap (xors (take 16 (drop at s))) ep
         ∙ sym (ctr-last f size w front k (take 16 (drop at s)) (omega (arith, length-take 16 (drop at s))))
         ∙ ap (λ (n : ℕ). ctr f w front k (take n (drop at s))) (sym one)))
@@ -226,14 +204,26 @@ module _ {f : List ℕ → List ℕ} {w : ℕ} {front : List ℕ} {i : ℕ} {s b
         one : at + 16 - at ≡ 16
         one = omega arith
 
-    -- b blocks more, or all that there is
-    pub partly-most : (b e m : ℕ) {ys : List ℕ} → at < length s → 0 < b → e ≡ at + min (16 * b) (length s - at) → m ≡ (e - at + 15) / 16
-        → ys ≡ ctr f w front k (take (e - at) (drop at s)) → Partly f w front i s before e (k + m) (take at out ++ (ys ++ drop (e - at) (drop at out)))
-    partly-most b e m less some end count is = partly-turn m e (omega arith) (omega arith) (λ h. omega arith) is
-
   -- and all that is left, as it is lent and comes back
   pub partly-last : {at k : ℕ} {out : List ℕ} → Partly f w front i s before at k out → length s ≤ length before → ((x : List ℕ) → length (f x) ≡ 16)
       → {ys : List ℕ} → ys ≡ ctr f w front k (take (length s - at) (drop at s))
       → take at out ++ (ys ++ drop (length s - at) (drop at out)) ≡ over (ctr f w front i s) before
   partly-last {at} p fits size is =
-      partly-end (partly-turn p fits size (length s - at) (length s) (omega (arith, p .inside)) (omega arith) (λ h. omega arith) is) fits size (omega arith)
+      partly-end (partly-turn p fits size (length s - at) (length s) (p .inside) (omega (arith, p .inside, p .counted)) (omega arith) (λ h. omega arith) is) fits size (omega arith)
+
+-- ---- a text in two parts, lent one after the other: m whole blocks or all that there is, which came back as ys, and the rest
+
+module _ (f : List ℕ → List ℕ) (size : (x : List ℕ) → length (f x) ≡ 16) (w : ℕ) (front : List ℕ) (i m n : ℕ) (s out : List ℕ) {ys : List ℕ} (fits : length s ≤ length out)
+    (inside : n ≤ length s) (one : m ≤ n + 1) (whole : n < length s → n ≡ 16 * m) (first : ys ≡ ctr f w front i (take n s)) where
+  written : Partly f w front i s out n (i + m) (ys ++ drop n out)
+  written =
+      subst (λ (k : ℕ). Partly f w front i s out n (i + m) (ys ++ drop k out)) (sub-zero n)
+      (partly-turn (partly-start {f = f} {w = w} {front = front} {i = i} {s = s} {before = out}) fits size m n (omega arith) (omega arith) inside (λ h. omega (arith, whole h))
+      (first ∙ ap (λ (k : ℕ). ctr f w front i (take k s)) (sym (sub-zero n))))
+
+  pub rest-room : length (take (length s - n) (drop n (ys ++ drop n out))) ≡ length (take (length s - n) (drop n s))
+  rest-room = partly-rest written fits .1
+
+  pub parts-over : {zs : List ℕ} → zs ≡ ctr f w front (i + m) (take (length s - n) (drop n s))
+      → take n (ys ++ drop n out) ++ (zs ++ drop (length s - n) (drop n (ys ++ drop n out))) ≡ over (ctr f w front i s) out
+  parts-over = partly-last written fits size

@@ -1,12 +1,13 @@
 -- GCM as the code makes it, for any f whose every value has 16 bytes: the counter blocks' front, the block of lengths, the text and the tag.
 -- Assumes nothing.
 use mathlib.Core.Path.{_≡_, refl, sym, ap, ap₂, _∙_}
-use mathlib.Core.Bool.{true}
+use mathlib.Core.Bool.{true, false}
 use mathlib.Core.List.{List, [], _∷_, _++_}
-use lib.Dec.{lit≤}
-use Prim.Native.Nat.{ℕ, _+_, _-_, _*_, _≤_}
+use lib.Dec.{lit<, lit≤}
+use Prim.Native.Nat.{ℕ, _+_, _-_, _*_, _/_, _%_, _^_, _≤_, _<_}
+use native.Mathlib.Nat.{zero-add, zero-mul, div-one}
 use native.Mathlib.Omega.{arith}
-use lib.ListN.{length, take, drop, replicate, length-append}
+use lib.ListN.{length, set, take, drop, replicate, length-append}
 use lib.Seq.{take-at}
 use Rattle.octets.specs.BigEndian.{be}
 use Rattle.octets.specs.Bytes.{Bytes}
@@ -14,9 +15,9 @@ use Rattle.octets.specs.Xor.{xors}
 use Rattle.octets.specs.Same.{same}
 use Rattle.octets.specs.Lent.{lowest, over, answer}
 use Rattle.octets.specs.Blocks.{cut}
-use Rattle.octets.proofs.Lent.{over-fits, over-zeros, length-over, over-front, over-then}
+use Rattle.octets.proofs.Lent.{over-fits, over-front, over-then}
 use Rattle.octets.proofs.Bytes.{bytes-append, bytes-take}
-use Rattle.octets.proofs.BigEndian.{bytes-be}
+use Rattle.octets.proofs.BigEndian.{bytes-be, be-append}
 use Rattle.ghash.specs.Ghash.{zeros, ghash}
 use Rattle.ghash.proofs.Laws.{ghash-length}
 use Rattle.modes.specs.Counter.{counterBlock, ctr, counterAnswer, frontOf}
@@ -33,16 +34,16 @@ base-stored iv size = over-fits iv (replicate 16 0) (omega arith) ∙ ap (λ (n 
 pub front-base : (iv : List ℕ) → length iv ≡ 12 → frontOf true (iv ++ be 4 0) ≡ iv
 front-base iv size = take-at iv (be 4 0) 12 size
 
--- two strings of 8 bytes, each over its half of zeros
-pub two-stored : (a b d : List ℕ) {ys : List ℕ} → length a ≡ 8 → length b ≡ 8 → d ≡ over a (replicate 16 0) → ys ≡ over b (take 8 (drop 8 d))
-    → take 8 d ++ (ys ++ drop 8 (drop 8 d)) ≡ a ++ b
-two-stored a b d {ys} ea eb first second =
-    ap (λ (k : ℕ). take 8 d ++ (ys ++ drop k (drop 8 d))) half
-    ∙ over-then a b (replicate 16 0) d ys 8 ea (omega arith) first (second ∙ ap (λ (k : ℕ). over b (take k (drop 8 d))) half)
-    ∙ over-zeros (a ++ b) 16 (length-append a b ∙ omega arith)
-  where
-    half : 8 ≡ length d - 8
-    half = omega (arith, ap length first ∙ length-over a (replicate 16 0))
+-- a number that w bytes hold, in v bytes more
+be-high : (v w n : ℕ) → 0 < 256 ^ v → n < 256 ^ w → be (v + w) n ≡ be v 0 ++ be w n
+be-high v w n some h = ap (be (v + w)) (sym (rw (zero-mul (256 ^ w)) (zero-add n))) ∙ be-append v w 0 n some h
+
+-- two numbers in 8 bytes each, of which the lower two bytes and the lower three are stored
+pub lengths-stored : (a c : ℕ) → a < 65536 → c < 16777216
+    → counterBlock 3 (frontOf false (set (set (replicate 16 0) 6 (a / 256 % 256)) 7 (a % 256))) c ≡ be 8 a ++ be 8 c
+lengths-stored a c ha hc =
+    ap (λ (n : ℕ). counterBlock 3 (frontOf false (set (set (replicate 16 0) 6 (a / 256 % 256)) 7 (n % 256))) c) (sym (div-one a))
+    ∙ sym (ap₂ (λ (x y : List ℕ). x ++ y) (be-high 6 2 a (lit< tt) ha) (be-high 5 3 c (lit< tt) hc))
 
 module _ (f : List ℕ → List ℕ) where
   -- ---- the tag
@@ -95,6 +96,13 @@ module _ (f : List ℕ → List ℕ) (size : (x : List ℕ) → length (f x) ≡
   unfolding text
   text-counted s short = gctr-two iv h f s (counterFits-four 2 (length s) (lit≤ tt) short) ∙ ap (λ (l : List ℕ). ctr f 4 l 2 s) (sym front-is)
 
+  -- its text is written where its counters fit
+  pub text-written : (c out : List ℕ) {x : ℕ × List ℕ} → length c ≤ textMax → counterAnswer f 4 (frontOf true base) 2 c out ≡ x → answer 0 (text f iv c) out ≡ x
+  text-written c out short ran =
+      ap (λ (s : List ℕ). (0, over s out)) (text-counted c short)
+      ∙ sym (counterAnswer-fits f 4 (frontOf true base) 2 c out (counterFits-four 2 (length c) (lit≤ tt) short))
+      ∙ ran
+
   -- the ciphertext over the front of the output, with the number n of its counters, and its tag after it
   pub sealed-steps : (p out : List ℕ) {tag out₁ ys : List ℕ} {n : ℕ} → length p ≤ textMax → length p + 16 ≤ length out
       → counterAnswer f 4 (frontOf true base) 2 p out ≡ (n, out₁) → tag ≡ tagOf f (frontOf true base) a (take (length p) out₁)
@@ -107,11 +115,8 @@ module _ (f : List ℕ → List ℕ) (size : (x : List ℕ) → length (f x) ≡
       (omega (arith, length-tagOf f size iv a (text f iv p))) first
       (es ∙ ap (λ (t : List ℕ). over t (take (length out₁ - length p) (drop (length p) out₁))) tagged)))
     where
-      counted : _≡_ {A = ℕ × List ℕ} (0, over (text f iv p) out) (n, out₁)
-      counted =
-          ap (λ (s : List ℕ). (0, over s out)) (text-counted p short)
-          ∙ sym (counterAnswer-fits f 4 (frontOf true base) 2 p out (counterFits-four 2 (length p) (lit≤ tt) short))
-          ∙ ran
+      counted : answer 0 (text f iv p) out ≡ (n, out₁)
+      counted = text-written p out short ran
 
       first : out₁ ≡ over (text f iv p) out
       first = sym (ap (λ (x : ℕ × List ℕ). x .1) counted)
@@ -119,12 +124,8 @@ module _ (f : List ℕ → List ℕ) (size : (x : List ℕ) → length (f x) ≡
       tagged : tag ≡ tagOf f iv a (text f iv p)
       tagged = et ∙ ap₂ (λ (v c : List ℕ). tagOf f v a c) front-is (over-front (text f iv p) out out₁ (length p) (length-text f size iv p) (omega arith) first)
 
-  -- the tag of the ciphertext decides, and then its text is written
-  pub opened-steps : (c t out : List ℕ) {right : List ℕ} {n : ℕ} {x : ℕ × List ℕ} → length c ≤ textMax → right ≡ tagOf f (frontOf true base) a c
-      → n ≡ lowest (tagTests (same t right)) → answer n (ctr f 4 (frontOf true base) 2 c) out ≡ x
-      → answer (lowest (tagTests (tagRight f iv a c t))) (text f iv c) out ≡ x
+  -- the tag of the ciphertext decides
+  pub opened-number : (c t : List ℕ) {right : List ℕ} {n : ℕ} → right ≡ tagOf f (frontOf true base) a c → n ≡ lowest (tagTests (same t right))
+      → n ≡ lowest (tagTests (tagRight f iv a c t))
   unfolding tagRight
-  opened-steps c t out short er en e =
-      ap₂ (λ (k : ℕ) (s : List ℕ). answer k s out)
-      (ap (λ (r : List ℕ). lowest (tagTests (same t r))) (sym (er ∙ ap (λ (v : List ℕ). tagOf f v a c) front-is)) ∙ sym en) (text-counted c short)
-      ∙ e
+  opened-number c t er en = en ∙ ap (λ (r : List ℕ). lowest (tagTests (same t r))) (er ∙ ap (λ (v : List ℕ). tagOf f v a c) front-is)

@@ -3,21 +3,12 @@
 use mathlib.Core.Path.{_≡_}
 use Prim.Native.Nat.{ℕ, _/_, _%_}
 use mathlib.Core.List.{List}
-use lib.ListN.{length, getD}
 use Rattle.aes.specs.State.{State}
 use Rattle.aes.specs.Cipher.{cipher}
 use Rattle.aes_fast.specs.ByTables.{Tables}
 use Rattle.aes_fast.specs.Start.{cipherFrom}
 use Rattle.aes_fast.specs.declared.start.Start.{Start}
 use Rattle.modes.specs.Counter.{counterBlock}
-
--- the start s by a counter's last byte, which is the block b's first: counter mode with a field of one byte and no front runs modulo 256
-abbrev pub padOf : Tables → List State → Start → List ℕ → List ℕ
-padOf t ks s b = cipherFrom t ks s (getD b 0 0 % 256)
-
--- its every value has 16 bytes
-abbrev pub Sized : (List ℕ → List ℕ) → Type 0
-Sized f = (x : List ℕ) → length (f x) ≡ 16
 
 -- the start s gives the pad of each counter that differs from k in the last byte alone
 pub record Serves (t : Tables) (ks : List State) (w : ℕ) (front : List ℕ) (s : Start) (k : ℕ) : Type 0 where

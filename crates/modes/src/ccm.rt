@@ -1,6 +1,6 @@
 // CCM: SP 800-38C with a 12-byte nonce, a 3-byte length field and a 16-byte tag.
+use crate::counter::counter;
 use crate::counter::counter_block;
-use crate::counter::counter_if;
 use crate::passes::chain_opened;
 use crate::passes::seal_text;
 use crate::tag::tag_number;
@@ -140,5 +140,8 @@ pub(crate) fn open(
     let z = chain_opened(t, ks, base, y, c);
     let right = tag_from(t, ks, base, z);
     let number = tag_number(tag, &right);
-    counter_if(number, t, ks, base, false, 1, c, out)
+    if 0 < number {
+        return number;
+    }
+    counter(t, ks, base, false, 1, c, out)
 }

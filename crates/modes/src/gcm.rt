@@ -1,11 +1,9 @@
 // GCM: SP 800-38D with a 96-bit IV and a 16-byte tag.
 use crate::counter::counter;
 use crate::counter::counter_block;
-use crate::counter::counter_if;
 use crate::tag::tag_number;
 use aes_fast::encrypt;
 use ghash::hash::ghash_parts;
-use octets::big_endian::bytes64;
 use octets::strings::put;
 use octets::strings::xor_blocks;
 ghost use mathlib.Core.Path.{_≡_};
@@ -31,18 +29,16 @@ fn base_of(iv: &[u8]) -> [u8; 16]
     b
 }
 
-// The last block of the hash: both lengths in bits, 64 bits each.
+// The last block of the hash: both lengths in bits, 64 bits each, of which the lower two bytes and the lower three are used.
 fn lengths_block(a_len: usize, c_len: usize) -> [u8; 16]
     requires { ⌜ («a_len» ≤ 4152) × («c_len» ≤ 1048576) ⌝ }
     ensures { λ r. ⌜ r ≡ be 8 (8 * «a_len») ++ be 8 (8 * «c_len») ⌝ }
 {
-    let a = bytes64(8 * (a_len as u64));
-    let c = bytes64(8 * (c_len as u64));
-    let middle = 8;
+    let bits = 8 * a_len;
     let mut b = [0u8; 16];
-    put(&mut b, &a);
-    put(&mut b[middle..], &c);
-    b
+    b[6] = (bits / 256 % 256) as u8;
+    b[7] = (bits % 256) as u8;
+    counter_block(b, false, 8 * c_len)
 }
 
 // The tag of a ciphertext. The associated data is a and then b.
@@ -101,5 +97,8 @@ pub(crate) fn open(
     let base = base_of(iv);
     let right = tag_of(t, ks, base, a, b, c);
     let number = tag_number(tag, &right);
-    counter_if(number, t, ks, base, true, 2, c, out)
+    if 0 < number {
+        return number;
+    }
+    counter(t, ks, base, true, 2, c, out)
 }

@@ -1,7 +1,8 @@
 // CCM's passes along a text: the chain beside the counter, two blocks a call.
 use crate::counter::add_at;
-use crate::counter::add_last;
+use crate::counter::add_single;
 use crate::counter::counter_block;
+use crate::counter::renewed;
 use crate::counter::start_at;
 use crate::counter::summed;
 use aes_fast::encrypt;
@@ -30,23 +31,6 @@ ghost use Rattle.aes_fast.specs.Halves.{halvesBlock};
 ghost use Rattle.aes_fast.specs.Start.{cipherFrom};
 ghost use Rattle.modes.specs.Counter.{ctr, frontOf};
 ghost use Rattle.modes.specs.Pads.{Serves};
-
-// The start for the counter after k, from that for k.
-fn renewed(
-    t: &[[u32; 256]; 4],
-    ks: &[[[u8; 4]; 4]; 15],
-    base: [u8; 16],
-    s: Start,
-    k: usize,
-) -> Start
-    requires { ⌜ Ready (now t) (now ks) × (k ≤ 1048577) × Serves (now t) (now ks) 3 (frontOf false base) s k ⌝ }
-    ensures { λ r. ⌜ Serves (now (t .entry)) (now (ks .entry)) 3 (frontOf false base) r (k + 1) ⌝ }
-{
-    if (k + 1) % 256 == 0 {
-        return start_at(t, ks, base, false, k + 1);
-    }
-    s
-}
 
 // The block at place `at` of a plaintext: chained to y, and with the pad of the counter that ends with the byte `low`.
 fn seal_block(
@@ -80,11 +64,7 @@ fn seal_last(
     requires { ⌜ Ready (now t) (now ks) × (length (now p) < 16) × (length (now out) ≡ length (now p)) ⌝ }
     ensures { λ r. ⌜ (r ≡ chain (cipher (now (ks .entry))) y (cut (now (p .entry)))) × (now (out .exit) ≡ ctr (cipher (now (ks .entry))) 3 (frontOf false base) k (now (p .entry))) ⌝ }
 {
-    if p.len() == 0 {
-        return y;
-    }
-    let pad = encrypt(t, ks, counter_block(base, false, k));
-    add_last(p, pad, out);
+    add_single(t, ks, base, false, k, p, out);
     chain_along(t, ks, y, p)
 }
 
@@ -107,7 +87,7 @@ pub(crate) fn seal_text(
     let mut s = start_at(t, ks, base, false, 1);
     while 16 <= n - at {
         let u = seal_block(t, ks, s, (k % 256) as u8, h, p, at, out);
-        let v = renewed(t, ks, base, s, k);
+        let v = renewed(t, ks, base, false, s, k);
         h = u;
         s = v;
         at += 16;
@@ -171,7 +151,7 @@ pub(crate) fn chain_opened(
     let mut s = start_at(t, ks, base, false, 1);
     let mut pad = encrypt_from(t, ks, s, 1);
     while 16 <= n - at {
-        let v = renewed(t, ks, base, s, k);
+        let v = renewed(t, ks, base, false, s, k);
         let both = open_block(t, ks, v, ((k + 1) % 256) as u8, h, halves_at(c, at), pad);
         h = both.one;
         pad = both.other;

@@ -1,76 +1,88 @@
--- `modes::counter::add_rest` meets its contract: a block a turn, or what there is.
+-- `modes::counter::add_rest` meets its contract: a block or what there is, and then what is left.
 -- Assumes nothing.
 use mathlib.Core.Path.{sym, _∙_}
-use mathlib.Core.List.{[]}
-use Prim.Native.Nat.{ℕ, _-_, _≤_}
+use Prim.Native.Nat.{_≤_}
 use native.Mathlib.Omega.{arith}
 use borrow.Author.Needs.{needs}
-use lib.Dec.{lit<}
 use lib.ListN.{length}
+use lib.Seq.{length-take-le}
 use Rattle.octets.proofs.Lent.{over-whole}
-use Rattle.modes.specs.Pads.{padOf}
-use Rattle.modes.proofs.Stream.{Partly, partly-start, partly-lent, partly-most, partly-end, length-ctr}
+use Rattle.aes.specs.Cipher.{cipher}
+use Rattle.aes.proofs.Laws.{cipher-length}
+use Rattle.modes.specs.Counter.{width, frontOf}
+use Rattle.modes.proofs.Limits.{least-inside, least-short, least-whole, least-left}
+use Rattle.modes.proofs.Written.{part-length}
+use Rattle.modes.proofs.Stream.{rest-room, parts-over, length-ctr}
 use Rattle.modes.proofs.counter.add_rest.Statement.{statement}
 use Rattle.modes.proofs.counter.add_rest.Tie as tie
 
-abbrev Inv-loop : tie.InvT-loop
-Inv-loop t ks s i text out₀ n at₀ k₀ out at k = Partly (padOf t ks s) 1 [] i text out₀ at k out
-
-abbrev μ-loop : tie.MeasureT-loop
-μ-loop t ks s i text out₀ n at₀ k₀ out at k = length text - at
-
-fits : (c : tie.Start Inv-loop μ-loop) → length (c .args .text .now) ≤ length (c .args .out .now)
+fits : (c : tie.Start) → length (c .args .text .now) ≤ length (c .args .out .now)
 fits c = omega (arith, c .pre .2)
 
-loop-holds : tie.Need-loop-holds Inv-loop μ-loop
-loop-holds c = partly-start
+inside : (c : tie.After-least) → c .least .result ≤ length (c .before .before .before .args .text .now)
+inside c = least-inside 16 (length (c .before .before .before .args .text .now)) (c .least .ensures)
 
-add-single-requires : tie.Need-add-single-requires Inv-loop μ-loop
+room : (c : tie.After-least) → c .least .result ≤ length (c .before .before .before .args .out .now)
+room c = omega (arith, inside c, fits (c .before .before .before))
+
+slice-aggregate-add-single : tie.Need-slice-aggregate-add-single
+slice-aggregate-add-single c =
+    let after-least = c .before in
+    let start = after-least .before .before .before in
+    sym (length-take-le (after-least .least .result) (start .args .text .now) (inside after-least))
+
+slice-aggregate-add-single-2 : tie.Need-slice-aggregate-add-single-2
+slice-aggregate-add-single-2 c =
+    let after-least = c .before .before in
+    let start = after-least .before .before .before in
+    sym (length-take-le (after-least .least .result) (start .args .out .now) (room after-least))
+
+add-single-requires : tie.Need-add-single-requires
 add-single-requires c κs =
-    let in-loop = c .before .before .before in
-    let at-loop = in-loop .before in
-    let start = at-loop .before .before .before in
-    let ended = c .before .before .block-end in
-    let lent = partly-lent (at-loop .loop .inv) (fits start) 16 (ended .result) (in-loop .loop-test .taken) (ended .ensures) in
-    (start .pre .0, lent .0, lent .1)
+    let after-least = c .before .before in
+    let start = after-least .before .before .before in
+    let h = after-least .least in
+    let text = length-take-le (h .result) (start .args .text .now) (inside after-least) in
+    (start .pre .0, omega (arith, text, least-short 16 (length (start .args .text .now)) (h .ensures)), length-take-le (h .result) (start .args .out .now) (room after-least) ∙ sym text)
 
-add-k : tie.Need-add-k Inv-loop μ-loop
-add-k c =
-    let at-loop = c .before .before .before .before .before .before .before in
-    omega (arith, at-loop .loop .inv .counted)
-
-loop-again : tie.Need-loop-again Inv-loop μ-loop
-loop-again c =
-    let after-block-end = c .before .before .before .before .before in
-    let in-loop = after-block-end .before in
-    let at-loop = in-loop .before in
-    let start = at-loop .before .before .before in
-    let ended = after-block-end .block-end in
-    partly-most (at-loop .loop .inv) (fits start) (start .pre .0) 1 (ended .result) 1 (in-loop .loop-test .taken) (lit< tt) (ended .ensures)
-    (omega (arith, ended .ensures)) (c .before .before .add-single .ensures)
-
-same-length : tie.Need-same-length Inv-loop μ-loop
-same-length c = c .before .loop .inv .room
-
-returns : tie.Need-returns Inv-loop μ-loop
-returns c =
-    let start = c .before .before .before .before in
+add-single-requires-2 : tie.Need-add-single-requires-2
+add-single-requires-2 c κs =
+    let after-add-single = c .before .before .before .before in
+    let after-least = after-add-single .before .before .before in
+    let start = after-least .before .before .before in
     let a = start .args in
-    partly-end (c .before .loop .inv) (fits start) (start .pre .0) (c .loop-test .left)
-    ∙ over-whole _ (a .out .now) (length-ctr (padOf (a .t .now) (a .ks .now) (a .s)) (start .pre .0) 1 [] (a .i) (a .text .now) ∙ sym (start .pre .2))
+    let h = after-least .least in
+    let n = length (a .text .now) in (
+      start .pre .0,
+      omega (arith, part-length (a .text .now) (h .result) n (omega arith), least-left 16 n (h .ensures) (start .pre .1)),
+      rest-room (cipher (a .ks .now)) (cipher-length (a .ks .now)) (width (a .wide)) (frontOf (a .wide) (a .base)) (a .i) 1 (h .result) (a .text .now) (a .out .now) (fits start)
+          (inside after-least) (omega arith) (least-whole 16 n (h .ensures)) (after-add-single .add-single .ensures),
+    )
+
+returns : tie.Need-returns
+returns c =
+    let after-add-single = c .before .before .before .before .before .before .before in
+    let after-least = after-add-single .before .before .before in
+    let start = after-least .before .before .before in
+    let a = start .args in
+    let h = after-least .least in
+    let F = cipher (a .ks .now) in
+    let size = cipher-length (a .ks .now) in
+    parts-over F size (width (a .wide)) (frontOf (a .wide) (a .base)) (a .i) 1 (h .result) (a .text .now) (a .out .now) (fits start) (inside after-least) (omega arith)
+    (least-whole 16 (length (a .text .now)) (h .ensures)) (after-add-single .add-single .ensures) (c .before .before .add-single2 .ensures)
+    ∙ over-whole _ (a .out .now) (length-ctr F size (width (a .wide)) (frontOf (a .wide) (a .base)) (a .i) (a .text .now) ∙ sym (start .pre .2))
 
 pub add-rest-spec : {M : Type 1} → statement M
 add-rest-spec =
     tie.close
     (tie.spec
-    Inv-loop
-    μ-loop
-    loop-holds
-    (λ c κs. search needs) (λ c. search needs) (λ c. search needs) (λ c. search needs)
-    (λ c. search needs) (λ c. search needs) (λ c. search needs)
-    add-single-requires
-    add-k
+    (λ c κs. search needs)
+    slice-aggregate-add-single
     (λ c. search needs)
-    loop-again
-    same-length
+    slice-aggregate-add-single-2
+    add-single-requires
+    (λ c. search needs) (λ c. search needs) (λ c. search needs) (λ c. search needs)
+    (λ c. search needs) (λ c. search needs) (λ c. search needs)
+    add-single-requires-2
+    (λ c. search needs)
     returns)

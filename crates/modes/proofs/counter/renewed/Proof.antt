@@ -1,11 +1,11 @@
--- `modes::passes::renewed` meets its contract: a start serves until the counter's last byte comes round.
+-- `modes::counter::renewed` meets its contract: a start serves until the counter's last byte comes round.
 -- Assumes nothing.
 use native.Mathlib.Omega.{arith}
 use borrow.Author.Needs.{needs}
 use Prim.Native.Nat.{_+_}
 use Rattle.modes.proofs.Grouped.{serves-also}
-use Rattle.modes.proofs.passes.renewed.Statement.{statement}
-use Rattle.modes.proofs.passes.renewed.Tie as tie
+use Rattle.modes.proofs.counter.renewed.Statement.{statement}
+use Rattle.modes.proofs.counter.renewed.Tie as tie
 
 returns-2 : tie.Need-returns-2
 returns-2 c =

@@ -1,0 +1,155 @@
+-- `modes::counter::add_pairs` meets its contract: two blocks a turn, whose counters one start serves, and then the rest.
+-- Assumes nothing.
+use mathlib.Core.Path.{_≡_, refl, sym, _∙_}
+use Prim.Native.Nat.{ℕ, _+_, _-_, _%_, _≤_, _<_}
+use native.Mathlib.Omega.{arith}
+use borrow.Author.Needs.{needs}
+use lib.ListN.{length}
+use Rattle.octets.proofs.Lent.{over-whole}
+use Rattle.aes.specs.Cipher.{cipher}
+use Rattle.aes.proofs.Laws.{cipher-length}
+use Rattle.modes.specs.Counter.{width, frontOf}
+use Rattle.modes.specs.Pads.{Serves}
+use Rattle.modes.proofs.Limits.{pair-within, pair-even, pair-same}
+use Rattle.modes.proofs.Stream.{Partly, partly-start, partly-room, partly-rest, partly-block, partly-last, length-ctr}
+use Rattle.modes.proofs.Grouped.{serves-also}
+use Rattle.modes.proofs.counter.add_pairs.Statement.{statement}
+use Rattle.modes.proofs.counter.add_pairs.Tie as tie
+
+abbrev Inv-loop : tie.InvT-loop
+Inv-loop t ks base wide i text out₀ n at₀ k₀ s₀ out at k s =
+    (k % 2 ≡ 0) × Serves t ks (width wide) (frontOf wide base) s k × Partly (cipher ks) (width wide) (frontOf wide base) i text out₀ at k out
+
+abbrev μ-loop : tie.MeasureT-loop
+μ-loop t ks base wide i text out₀ n at₀ k₀ s₀ out at k s = length text - at
+
+fits : (c : tie.Start Inv-loop μ-loop) → length (c .args .text .now) ≤ length (c .args .out .now)
+fits c = omega (arith, c .pre .1)
+
+-- a pair's end and the counter after it are numbers of 64 bits
+below : (c : tie.At-loop Inv-loop μ-loop) → 32 ≤ length (c .before .before .before .before .args .text .now) - c .loop .at
+    → (c .loop .at + 16 + 16 < 18446744073709551616) × (c .loop .k + 1 + 1 < 18446744073709551616)
+below c more =
+    let start = c .before .before .before .before in
+    let n = start .good .1 .1 .1 .1 .1 .0 .1 in
+    (omega (arith, n, pair-within (c .loop .at) (length (start .args .text .now)) more .1), omega (arith, n, more, start .pre .3, c .loop .inv .2 .counted))
+
+-- after the first block of a pair
+first : (c : tie.After-add-at Inv-loop μ-loop)
+    → (let at-loop = c .before .before .before .before in
+    let a = at-loop .before .before .before .before .args in
+    Partly (cipher (a .ks .now)) (width (a .wide)) (frontOf (a .wide) (a .base)) (a .i) (a .text .now) (a .out .now) (at-loop .loop .at + 16) (at-loop .loop .k + 1)
+    (c .add-at .last .1 .1 .1 .0))
+first c =
+    let ciphered = c .before .before in
+    let at-loop = ciphered .before .before in
+    let start = at-loop .before .before .before .before in
+    let a = start .args in
+    let l = at-loop .loop in
+    partly-block (l .inv .2) (fits start) (cipher-length (a .ks .now)) (pair-within (l .at) (length (a .text .now)) (ciphered .before .loop-test .taken) .0)
+    (ciphered .encrypt-two-from .ensures .0 ∙ l .inv .1 .pads (l .k) refl) (c .add-at .ensures)
+
+start-at-requires : tie.Need-start-at-requires Inv-loop μ-loop
+start-at-requires c κs = c .before .before .pre .0
+
+loop-holds : tie.Need-loop-holds Inv-loop μ-loop
+loop-holds c =
+    let start = c .before .before .before in
+    (start .pre .2, c .start-at .ensures, partly-start)
+
+add-later : tie.Need-add-later Inv-loop μ-loop
+add-later c = omega (arith, c .before .loop .inv .2 .counted)
+
+add-at-requires : tie.Need-add-at-requires Inv-loop μ-loop
+add-at-requires c κs =
+    let at-loop = c .before .before .before in
+    let start = at-loop .before .before .before .before in
+    let more = pair-within (at-loop .loop .at) (length (start .args .text .now)) (c .before .before .loop-test .taken) in
+    (more .0, partly-room (at-loop .loop .inv .2) (fits start) (more .0))
+
+add-at-requires-2 : tie.Need-add-at-requires-2 Inv-loop μ-loop
+add-at-requires-2 c κs =
+    let after-add-at = c .before .before .before in
+    let in-loop = after-add-at .before .before .before in
+    let at-loop = in-loop .before in
+    let start = at-loop .before .before .before .before in
+    let more = pair-within (at-loop .loop .at) (length (start .args .text .now)) (in-loop .loop-test .taken) in
+    (more .1, partly-room (first after-add-at) (fits start) (more .1))
+
+renewed-requires : tie.Need-renewed-requires Inv-loop μ-loop
+renewed-requires c κs =
+    let at-loop = c .before .before .before .before .before .before .before .before .before .before in
+    let start = at-loop .before .before .before .before in
+    let l = at-loop .loop in
+    (start .pre .0, omega (arith, l .inv .2 .counted), serves-also (l .inv .1) (l .k + 1) (pair-same (l .k) (l .inv .0)))
+
+add-at : tie.Need-add-at Inv-loop μ-loop
+add-at c =
+    let in-loop = c .before .before .before .before .before .before .before .before .before .before in
+    let at-loop = in-loop .before in
+    omega (arith, below at-loop (in-loop .loop-test .taken) .0)
+
+add-k : tie.Need-add-k Inv-loop μ-loop
+add-k c =
+    let in-loop = c .before .before .before .before .before .before .before .before .before .before in
+    let at-loop = in-loop .before in
+    omega (arith, below at-loop (in-loop .loop-test .taken) .1)
+
+loop-again : tie.Need-loop-again Inv-loop μ-loop
+loop-again c =
+    let after-add-at2 = c .before .before .before in
+    let after-add-at = after-add-at2 .before .before .before .before in
+    let after-encrypt-two-from = after-add-at .before .before in
+    let in-loop = after-encrypt-two-from .before in
+    let at-loop = in-loop .before in
+    let start = at-loop .before .before .before .before in
+    let a = start .args in
+    let l = at-loop .loop in
+    let more = pair-within (l .at) (length (a .text .now)) (in-loop .loop-test .taken) in (
+      pair-even (l .k) (l .inv .0),
+      c .renewed .ensures,
+      partly-block (first after-add-at) (fits start) (cipher-length (a .ks .now)) (more .1)
+          (after-encrypt-two-from .encrypt-two-from .ensures .1 ∙ l .inv .1 .pads (l .k + 1) (pair-same (l .k) (l .inv .0))) (after-add-at2 .add-at2 .ensures),
+    )
+
+add-rest-requires : tie.Need-add-rest-requires Inv-loop μ-loop
+add-rest-requires c κs =
+    let at-loop = c .before .before .before in
+    let start = at-loop .before .before .before .before in
+    let l = at-loop .loop in
+    let left = partly-rest (l .inv .2) (fits start) in
+    (start .pre .0, omega (arith, left .0), left .1, omega (arith, l .inv .2 .counted))
+
+returns : tie.Need-returns Inv-loop μ-loop
+returns c =
+    let at-loop = c .before .before .before .before .before .before in
+    let start = at-loop .before .before .before .before in
+    let a = start .args in
+    let F = cipher (a .ks .now) in
+    let size = cipher-length (a .ks .now) in
+    partly-last (at-loop .loop .inv .2) (fits start) size (c .before .before .add-rest .ensures)
+    ∙ over-whole _ (a .out .now) (length-ctr F size (width (a .wide)) (frontOf (a .wide) (a .base)) (a .i) (a .text .now) ∙ sym (start .pre .1))
+
+pub add-pairs-spec : {M : Type 1} → statement M
+add-pairs-spec =
+    tie.close
+    (tie.spec
+    Inv-loop
+    μ-loop
+    start-at-requires
+    loop-holds
+    (λ c. search needs) (λ c. search needs)
+    add-later
+    (λ c. search needs) (λ c. search needs) (λ c κs. search needs)
+    add-at-requires
+    add-at-requires-2
+    renewed-requires
+    add-at
+    add-k
+    (λ c. search needs)
+    loop-again
+    (λ c. search needs) (λ c. search needs) (λ c. search needs) (λ c. search needs)
+    (λ c. search needs) (λ c. search needs)
+    add-rest-requires
+    (λ c. search needs)
+    returns)
