@@ -8,7 +8,7 @@ use lib.ListN.{length, getD}
 use Rattle.octets.specs.Lent.{when}
 use Rattle.octets.specs.Same.{same}
 use Rattle.octets.specs.Tests.{all}
-use Rattle.wording.specs.Meaning.{ascii}
+use Rattle.wording.specs.Ascii.{ascii}
 use Rattle.cases.specs.Words.{wordsOf, wordAt, someBytes, begins}
 use Rattle.cases.specs.Case.{Outcome, nothing, malformed, blockCase, encryptCase, decryptCase, wrapCase, unwrapCase}
 

@@ -20,7 +20,7 @@ fn print_output(bytes: [u8; 4368], size: usize)
         return;
     }
     let mut digits = [0u8; 8736];
-    wording::hex::write(part(&bytes, 0, size), &mut digits);
+    wording::writing::put_hex(&mut digits, 0, part(&bytes, 0, size), false);
     io::write_all(STDOUT_FILENO, part(&digits, 0, 2 * size));
 }
 

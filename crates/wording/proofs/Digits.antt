@@ -1,20 +1,22 @@
--- Digits and the bytes they make: each digit's value, and strings of them one pair at a time.
+-- Hexadecimal digits and the bytes they make: each digit's value, and strings of them one pair at a time.
 -- Assumes nothing.
 use mathlib.Core.Path.{_≡_, refl, sym, ap, ap₂, _∙_}
 use mathlib.Core.Bool.{Bool, true, false}
 use mathlib.Core.List.{List, [], _∷_, _++_}
 use Prim.Native.Nat.{ℕ, zero, suc, _+_, _-_, _*_, _/_, _%_, _≤_, _<_}
+use Prim.Native.Char.{code}
 use native.Mathlib.Numerals.{add-one}
 use native.Mathlib.Omega.{arith}
 use lib.Dec.{eqb, leb, ltb}
 use lib.ListN.{length, getD, set, take, drop, length-append}
 use lib.Seq.{take-suc, drop-cons, take-all, set-at, append-snoc, length-take-le}
 use borrow.Author.Tests.{eqb-true, leb-true, ltb-true, ltb-false, lt-ltb, le-ltb, le-leb, lt-leb}
-use Rattle.octets.specs.Lent.{over}
+use Rattle.octets.specs.Lent.{when, over}
 use Rattle.octets.specs.Tests.{all}
 use Rattle.octets.proofs.Tests.{and-left, and-right}
 use Rattle.octets.proofs.Lent.{over-fits}
-use Rattle.wording.specs.Hex.{between, isDigit, digitValue, digitOf, isHex, hexByte, hexBytes, digitsOf, hexRead, hexWrite}
+use Rattle.wording.specs.Decimal.{between, isDecimalDigit, decimalDigit}
+use Rattle.wording.specs.Hex.{isSmallDigit, isCapitalDigit, isHexDigit, digitValue, digitOf, isHex, hexByte, hexBytes, digitsOf, hexRead}
 
 -- ---- one digit
 
@@ -26,53 +28,71 @@ module _ (low high c : ℕ) (h : between low high c ≡ true) where
   between-high = leb-true c high (and-right (leb low c) (leb c high) h)
 
 module _ (c : ℕ) where
-  pub value-decimal : between 48 57 c ≡ true → digitValue c ≡ c - 48
+  pub value-decimal : isDecimalDigit c ≡ true → digitValue c ≡ c - code "0"
   unfolding digitValue
   value-decimal h = rw h
 
-  pub value-lower : between 48 57 c ≡ false → between 97 102 c ≡ true → digitValue c ≡ c - 87
+  pub value-small : isDecimalDigit c ≡ false → isSmallDigit c ≡ true → digitValue c ≡ c - code "a" + 10
   unfolding digitValue
-  value-lower h₁ h₂ = rw (h₁, h₂)
+  value-small h₁ h₂ = rw (h₁, h₂)
 
-  pub value-upper : between 48 57 c ≡ false → between 97 102 c ≡ false → between 65 70 c ≡ true → digitValue c ≡ c - 55
+  pub value-capital : isDecimalDigit c ≡ false → isSmallDigit c ≡ false → isCapitalDigit c ≡ true → digitValue c ≡ c - code "A" + 10
   unfolding digitValue
-  value-upper h₁ h₂ h₃ = rw (h₁, h₂, h₃)
+  value-capital h₁ h₂ h₃ = rw (h₁, h₂, h₃)
 
-  pub value-none : between 48 57 c ≡ false → between 97 102 c ≡ false → between 65 70 c ≡ false → digitValue c ≡ 0
+  pub value-none : isDecimalDigit c ≡ false → isSmallDigit c ≡ false → isCapitalDigit c ≡ false → digitValue c ≡ 0
   unfolding digitValue
   value-none h₁ h₂ h₃ = rw (h₁, h₂, h₃)
 
-pub digit-low : (d : ℕ) → d < 10 → digitOf d ≡ 48 + d
+pub digit-low : (capital : Bool) (d : ℕ) → d < 10 → digitOf capital d ≡ decimalDigit d
 unfolding digitOf
-digit-low d h = rw (lt-ltb d 10 h)
+digit-low capital d h = rw (lt-ltb d 10 h)
 
-pub digit-high : (d : ℕ) → 10 ≤ d → digitOf d ≡ 87 + d
+pub digit-high : (capital : Bool) (d : ℕ) → 10 ≤ d → digitOf capital d ≡ when capital (code "A") (code "a") + (d - 10)
 unfolding digitOf
-digit-high d h = rw (le-ltb d 10 h)
+digit-high capital d h = rw (le-ltb d 10 h)
 
--- a digit that was written counts what it was written for
+-- a digit that was written is one, and counts what it was written for
 
 between-right : (low high c : ℕ) → low ≤ c → c ≤ high → between low high c ≡ true
 between-right low high c l h = rw (le-leb low c l, le-leb c high h)
 
-module _ (d : ℕ) (small : d < 16) where
-  lower : 10 ≤ d → (between 48 57 (87 + d) ≡ false) × (between 97 102 (87 + d) ≡ true)
-  lower h = (rw (lt-leb (87 + d) 57 (omega arith), le-leb 48 (87 + d) (omega arith)), between-right 97 102 (87 + d) (omega arith) (omega arith))
+between-over : (low high c : ℕ) → low ≤ high → high < c → between low high c ≡ false
+between-over low high c l h = rw (lt-leb c high h, le-leb low c (omega arith))
 
-  counts : (t : Bool) → ltb d 10 ≡ t → (isDigit (digitOf d) ≡ true) × (digitValue (digitOf d) ≡ d)
-  unfolding isDigit
-  counts true h =
-      let low = between-right 48 57 (48 + d) (omega arith) (omega (arith, ltb-true d 10 h)) in
-      rw (digit-low d (ltb-true d 10 h)) (rw low, value-decimal (48 + d) low ∙ omega arith)
-  counts false h =
-      let range = lower (ltb-false d 10 h) in
-      rw (digit-high d (ltb-false d 10 h)) (rw (range .0, range .1), value-lower (87 + d) (range .0) (range .1) ∙ omega arith)
+between-under : (low high c : ℕ) → c < low → between low high c ≡ false
+between-under low high c h = rw (lt-leb low c h)
 
-  pub digit-is : isDigit (digitOf d) ≡ true
-  digit-is = counts (ltb d 10) refl .0
+abbrev Counts : ℕ → ℕ → Type 0
+Counts c d = (isHexDigit c ≡ true) × (digitValue c ≡ d)
 
-  pub digit-counts : digitValue (digitOf d) ≡ d
-  digit-counts = counts (ltb d 10) refl .1
+module _ (d : ℕ) (below : d < 16) where
+  counts-low : d < 10 → Counts (decimalDigit d) d
+  unfolding isHexDigit
+  counts-low h =
+      let range = between-right (code "0") (code "9") (decimalDigit d) (omega arith) (omega arith) in
+      (rw range, value-decimal (decimalDigit d) range ∙ omega arith)
+
+  counts-high : (capital : Bool) → 10 ≤ d → Counts (when capital (code "A") (code "a") + (d - 10)) d
+  unfolding isHexDigit
+  counts-high true h =
+      let c : ℕ = code "A" + (d - 10) in
+      let no-decimal = between-over (code "0") (code "9") c (omega arith) (omega arith) in
+      let no-small = between-under (code "a") (code "f") c (omega arith) in
+      let range = between-right (code "A") (code "F") c (omega arith) (omega arith) in
+      (rw (no-decimal, no-small, range), value-capital c no-decimal no-small range ∙ omega arith)
+  counts-high false h =
+      let c : ℕ = code "a" + (d - 10) in
+      let no-decimal = between-over (code "0") (code "9") c (omega arith) (omega arith) in
+      let range = between-right (code "a") (code "f") c (omega arith) (omega arith) in
+      (rw (no-decimal, range), value-small c no-decimal range ∙ omega arith)
+
+  pub digit-counts : (capital : Bool) → Counts (digitOf capital d) d
+  digit-counts capital = go (ltb d 10) refl
+    where
+      go : (t : Bool) → ltb d 10 ≡ t → Counts (digitOf capital d) d
+      go true t = rw (digit-low capital d (ltb-true d 10 t)) (counts-low (ltb-true d 10 t))
+      go false t = rw (digit-high capital d (ltb-false d 10 t)) (counts-high capital (ltb-false d 10 t))
 
 -- ---- one store more into a lent output: the p elements before it are written, and the rest is as it was
 
@@ -128,39 +148,39 @@ module _ (word out : List ℕ) (i : ℕ) where
 
 -- ---- digits
 
-pub length-digitsOf : (s : List ℕ) → length (digitsOf s) ≡ 2 * length s
+pub length-digitsOf : (capital : Bool) (s : List ℕ) → length (digitsOf capital s) ≡ 2 * length s
 unfolding digitsOf
-length-digitsOf [] = refl
-length-digitsOf (b ∷ s) = omega (arith, length-digitsOf s)
+length-digitsOf capital [] = refl
+length-digitsOf capital (b ∷ s) = omega (arith, length-digitsOf capital s)
 
-digitsOf-append : (s t : List ℕ) → digitsOf (s ++ t) ≡ digitsOf s ++ digitsOf t
+digitsOf-append : (capital : Bool) (s t : List ℕ) → digitsOf capital (s ++ t) ≡ digitsOf capital s ++ digitsOf capital t
 unfolding digitsOf
-digitsOf-append [] t = refl
-digitsOf-append (b ∷ s) t = ap (λ (l : List ℕ). digitOf (b / 16) ∷ digitOf (b % 16) ∷ l) (digitsOf-append s t)
+digitsOf-append capital [] t = refl
+digitsOf-append capital (b ∷ s) t = ap (λ (l : List ℕ). digitOf capital (b / 16) ∷ digitOf capital (b % 16) ∷ l) (digitsOf-append capital s t)
 
-module _ (s out : List ℕ) (i : ℕ) where
+module _ (capital : Bool) (s out : List ℕ) (i : ℕ) where
   pub digits-turn : i < length s → 2 * length s ≤ length out
-      → set (set (digitsOf (take i s) ++ drop (2 * i) out) (2 * i) (digitOf (getD s i 0 / 16))) (2 * i + 1) (digitOf (getD s i 0 % 16))
-      ≡ digitsOf (take (i + 1) s) ++ drop (2 * (i + 1)) out
+      → set (set (digitsOf capital (take i s) ++ drop (2 * i) out) (2 * i) (digitOf capital (getD s i 0 / 16))) (2 * i + 1) (digitOf capital (getD s i 0 % 16))
+      ≡ digitsOf capital (take (i + 1) s) ++ drop (2 * (i + 1)) out
   unfolding digitsOf
   digits-turn h r =
-      let p : List ℕ = digitsOf (take i s) in
-      let high : ℕ = digitOf (getD s i 0 / 16) in
-      let low : ℕ = digitOf (getD s i 0 % 16) in
+      let p : List ℕ = digitsOf capital (take i s) in
+      let high : ℕ = digitOf capital (getD s i 0 / 16) in
+      let low : ℕ = digitOf capital (getD s i 0 % 16) in
       let more : take (i + 1) s ≡ take i s ++ getD s i 0 ∷ [] = rw add-one (take-suc s i 0 h) in
       let next : 2 * i + 1 + 1 ≡ 2 * (i + 1) = omega arith in
-      let size : length p ≡ 2 * i = length-digitsOf (take i s) ∙ ap (λ (n : ℕ). 2 * n) (length-take-le i s (omega arith)) in
+      let size : length p ≡ 2 * i = length-digitsOf capital (take i s) ∙ ap (λ (n : ℕ). 2 * n) (length-take-le i s (omega arith)) in
       ap (λ (l : List ℕ). set l (2 * i + 1) low) (more-written p out (2 * i) high size (omega arith))
       ∙ more-written (p ++ high ∷ []) out (2 * i + 1) low (length-append p (high ∷ []) ∙ ap (λ (n : ℕ). n + 1) size) (omega arith)
       ∙ ap₂ (λ (l : List ℕ) (n : ℕ). l ++ drop n out)
-      (append-snoc p high (low ∷ []) ∙ sym (digitsOf-append (take i s) (getD s i 0 ∷ [])) ∙ ap digitsOf (sym more)) next
+      (append-snoc p high (low ∷ []) ∙ sym (digitsOf-append capital (take i s) (getD s i 0 ∷ [])) ∙ ap (digitsOf capital) (sym more)) next
 
-  pub digits-end : i ≡ length s → 2 * length s ≤ length out → digitsOf (take i s) ++ drop (2 * i) out ≡ over (digitsOf s) out
+  pub digits-end : i ≡ length s → 2 * length s ≤ length out → digitsOf capital (take i s) ++ drop (2 * i) out ≡ over (digitsOf capital s) out
   digits-end e room =
       let whole : take i s ≡ s = take-all i s (omega arith) in
-      let size : length (digitsOf s) ≡ 2 * i = length-digitsOf s ∙ ap (λ (n : ℕ). 2 * n) (sym e) in
-      ap (λ (l : List ℕ). digitsOf l ++ drop (2 * i) out) whole
-      ∙ sym (over-fits (digitsOf s) out (omega arith) ∙ ap (λ (n : ℕ). digitsOf s ++ drop n out) size)
+      let size : length (digitsOf capital s) ≡ 2 * i = length-digitsOf capital s ∙ ap (λ (n : ℕ). 2 * n) (sym e) in
+      ap (λ (l : List ℕ). digitsOf capital l ++ drop (2 * i) out) whole
+      ∙ sym (over-fits (digitsOf capital s) out (omega arith) ∙ ap (λ (n : ℕ). digitsOf capital s ++ drop n out) size)
 
 -- ---- the calls
 
@@ -179,13 +199,4 @@ module _ (word out : List ℕ) where
 
 pub hex-even : (word : List ℕ) → isHex word ≡ true → length word % 2 ≡ 0
 unfolding isHex
-hex-even word e = eqb-true (length word % 2) 0 (and-left (eqb (length word % 2) 0) (all isDigit word) e)
-
-module _ (s out : List ℕ) where
-  pub write-no-room : length out < 2 * length s → hexWrite s out ≡ (5, out)
-  unfolding hexWrite
-  write-no-room h = rw (lt-ltb (length out) (2 * length s) h)
-
-  pub write-done : 2 * length s ≤ length out → hexWrite s out ≡ (0, over (digitsOf s) out)
-  unfolding hexWrite
-  write-done h = rw (le-ltb (length out) (2 * length s) h)
+hex-even word e = eqb-true (length word % 2) 0 (and-left (eqb (length word % 2) 0) (all isHexDigit word) e)

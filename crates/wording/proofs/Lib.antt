@@ -1,3 +1,5 @@
+pub mod Decimal
 pub mod Digits
+pub mod Wrote
 pub mod Laws
 pub mod MeaningLaws

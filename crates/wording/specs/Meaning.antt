@@ -1,16 +1,10 @@
 -- What each number means (document 01, "Numbers given back"), in a line of text (ASCII).
 -- Assumes nothing.
 use Prim.Native.Nat.{ℕ}
-use Prim.Native.Char.{code}
-use Prim.Native.String as text
 use mathlib.Core.List.{List, [], _∷_}
 use lib.ListN.{length, getD, replicate}
 use Rattle.octets.specs.Lent.{over}
-
--- the bytes of a quoted text, whose characters are ASCII
-abbrev pub ascii : text.String → List ℕ
-ascii text.[] = []
-ascii (text._∷_ c s) = code c ∷ ascii s
+use Rattle.wording.specs.Ascii.{ascii}
 
 -- the table of document 01, its words shortened, from number 0 on
 abbrev pub meanings : List (List ℕ)

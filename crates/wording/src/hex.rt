@@ -4,7 +4,8 @@ ghost use Prim.Native.Nat.{_*_, _/_, _%_, _≤_, _<_};
 ghost use lib.ListN.{length};
 ghost use Rattle.octets.specs.Lent.{over};
 ghost use Rattle.octets.specs.Tests.{all};
-ghost use Rattle.wording.specs.Hex.{between, isDigit, digitValue, hexByte, hexBytes, isHex, digitOf, digitsOf, hexRead, hexWrite};
+ghost use Rattle.wording.specs.Decimal.{between, isDecimalDigit};
+ghost use Rattle.wording.specs.Hex.{isSmallDigit, isCapitalDigit, isHexDigit, digitValue, hexByte, hexBytes, isHex, digitOf, digitsOf, hexRead};
 
 fn lies_between(c: u8, low: u8, high: u8) -> bool
     ensures { λ r. ⌜ r ≡ between low high c ⌝ }
@@ -13,27 +14,27 @@ fn lies_between(c: u8, low: u8, high: u8) -> bool
 }
 
 fn is_decimal(c: u8) -> bool
-    ensures { λ r. ⌜ r ≡ between 48 57 c ⌝ }
+    ensures { λ r. ⌜ r ≡ isDecimalDigit c ⌝ }
 {
     lies_between(c, b'0', b'9')
 }
 
-fn is_lower(c: u8) -> bool
-    ensures { λ r. ⌜ r ≡ between 97 102 c ⌝ }
+fn is_small(c: u8) -> bool
+    ensures { λ r. ⌜ r ≡ isSmallDigit c ⌝ }
 {
     lies_between(c, b'a', b'f')
 }
 
-fn is_upper(c: u8) -> bool
-    ensures { λ r. ⌜ r ≡ between 65 70 c ⌝ }
+fn is_capital(c: u8) -> bool
+    ensures { λ r. ⌜ r ≡ isCapitalDigit c ⌝ }
 {
     lies_between(c, b'A', b'F')
 }
 
-fn is_digit(c: u8) -> bool
-    ensures { λ r. ⌜ r ≡ isDigit c ⌝ }
+fn is_hex_digit(c: u8) -> bool
+    ensures { λ r. ⌜ r ≡ isHexDigit c ⌝ }
 {
-    is_decimal(c) | is_lower(c) | is_upper(c)
+    is_decimal(c) | is_small(c) | is_capital(c)
 }
 
 // What a digit counts; 0 for any other character.
@@ -41,13 +42,13 @@ fn digit_value(c: u8) -> u8
     ensures { λ r. ⌜ (r ≡ digitValue c) × (r < 16) ⌝ }
 {
     if is_decimal(c) {
-        return c - 48;
+        return c - b'0';
     }
-    if is_lower(c) {
-        return c - 87;
+    if is_small(c) {
+        return c - b'a' + 10;
     }
-    if is_upper(c) {
-        return c - 55;
+    if is_capital(c) {
+        return c - b'A' + 10;
     }
     0
 }
@@ -59,11 +60,11 @@ fn byte_of(a: u8, b: u8) -> u8
 }
 
 fn all_digits(word: &[u8]) -> bool
-    ensures { λ r. ⌜ r ≡ all isDigit (now (word .entry)) ⌝ }
+    ensures { λ r. ⌜ r ≡ all isHexDigit (now (word .entry)) ⌝ }
 {
     let mut i = 0;
     while i < word.len() {
-        if !is_digit(word[i]) {
+        if !is_hex_digit(word[i]) {
             return false;
         }
         i += 1;
@@ -104,38 +105,29 @@ pub fn read(word: &[u8], out: &mut [u8]) -> u8
     0
 }
 
-// The digit of a number below 16.
-fn digit_of(d: u8) -> u8
+// The digit of a number below 16, a letter from ten on.
+fn digit_of(d: u8, capital: bool) -> u8
     requires { ⌜ d < 16 ⌝ }
-    ensures { λ r. ⌜ r ≡ digitOf d ⌝ }
+    ensures { λ r. ⌜ r ≡ digitOf capital d ⌝ }
 {
     if d < 10 {
-        return 48 + d;
+        return b'0' + d;
     }
-    87 + d
+    if capital {
+        return b'A' + (d - 10);
+    }
+    b'a' + (d - 10)
 }
 
 // The digits over the front of out, two for each byte.
-fn fill_digits(bytes: &[u8], out: &mut [u8])
+pub(crate) fn fill_digits(bytes: &[u8], capital: bool, out: &mut [u8])
     requires { ⌜ 2 * length (now bytes) ≤ length (now out) ⌝ }
-    ensures { λ _. ⌜ now (out .exit) ≡ over (digitsOf (now (bytes .entry))) (now (out .entry)) ⌝ }
+    ensures { λ _. ⌜ now (out .exit) ≡ over (digitsOf capital (now (bytes .entry))) (now (out .entry)) ⌝ }
 {
     let mut i = 0;
     while i < bytes.len() {
-        out[2 * i] = digit_of(bytes[i] / 16);
-        out[2 * i + 1] = digit_of(bytes[i] % 16);
+        out[2 * i] = digit_of(bytes[i] / 16, capital);
+        out[2 * i + 1] = digit_of(bytes[i] % 16, capital);
         i += 1;
     }
-}
-
-// Writes the digits of the bytes over the front of out, and answers 0; or changes nothing, and answers
-// 5 where out is shorter than twice the bytes.
-pub fn write(bytes: &[u8], out: &mut [u8]) -> u8
-    ensures { λ r. ⌜ hexWrite (now (bytes .entry)) (now (out .entry)) ≡ (r, now (out .exit)) ⌝ }
-{
-    if out.len() / 2 < bytes.len() {
-        return 5;
-    }
-    fill_digits(bytes, out);
-    0
 }

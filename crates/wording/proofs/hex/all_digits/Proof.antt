@@ -8,12 +8,12 @@ use borrow.Author.Tests.{not-true, not-false}
 use lib.ListN.{length, drop}
 use Rattle.octets.specs.Tests.{all}
 use Rattle.octets.proofs.Tests.{all-stop, all-turn, all-end}
-use Rattle.wording.specs.Hex.{isDigit}
+use Rattle.wording.specs.Hex.{isHexDigit}
 use Rattle.wording.proofs.hex.all_digits.Statement.{statement}
 use Rattle.wording.proofs.hex.all_digits.Tie as tie
 
 abbrev Inv-loop : tie.InvT-loop
-Inv-loop word i₀ i = (i ≤ length word) × (all isDigit word ≡ all isDigit (drop i word))
+Inv-loop word i₀ i = (i ≤ length word) × (all isHexDigit word ≡ all isHexDigit (drop i word))
 
 abbrev μ-loop : tie.MeasureT-loop
 μ-loop word i₀ i = length word - i
@@ -24,12 +24,12 @@ loop-holds c = (omega arith, refl)
 returns : tie.Need-returns Inv-loop μ-loop
 returns c =
     let t = c .before .before .before in
-    sym (t .before .loop .inv .1 ∙ all-stop _ _ _ 0 (t .loop-test .taken) (sym (c .before .is-digit .ensures) ∙ not-true _ (c .if1 .taken)))
+    sym (t .before .loop .inv .1 ∙ all-stop _ _ _ 0 (t .loop-test .taken) (sym (c .before .is-hex-digit .ensures) ∙ not-true _ (c .if1 .taken)))
 
 loop-again : tie.Need-loop-again Inv-loop μ-loop
 loop-again c =
     let t = c .before .before .before in
-    (omega arith, t .before .loop .inv .1 ∙ all-turn _ _ _ 0 (t .loop-test .taken) (sym (c .before .is-digit .ensures) ∙ not-false _ (c .if1 .left)))
+    (omega arith, t .before .loop .inv .1 ∙ all-turn _ _ _ 0 (t .loop-test .taken) (sym (c .before .is-hex-digit .ensures) ∙ not-false _ (c .if1 .left)))
 
 returns-2 : tie.Need-returns-2 Inv-loop μ-loop
 returns-2 c = sym (c .before .loop .inv .1 ∙ all-end _ _ _ (c .loop-test .left))

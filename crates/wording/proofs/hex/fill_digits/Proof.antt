@@ -12,10 +12,10 @@ use Rattle.wording.proofs.hex.fill_digits.Statement.{statement}
 use Rattle.wording.proofs.hex.fill_digits.Tie as tie
 
 abbrev Inv-loop : tie.InvT-loop
-Inv-loop bytes out₀ i₀ out i = (i ≤ length bytes) × (length out ≡ length out₀) × (out ≡ digitsOf (take i bytes) ++ drop (2 * i) out₀)
+Inv-loop bytes capital out₀ i₀ out i = (i ≤ length bytes) × (length out ≡ length out₀) × (out ≡ digitsOf capital (take i bytes) ++ drop (2 * i) out₀)
 
 abbrev μ-loop : tie.MeasureT-loop
-μ-loop bytes out₀ i₀ out i = length bytes - i
+μ-loop bytes capital out₀ i₀ out i = length bytes - i
 
 loop-holds : tie.Need-loop-holds Inv-loop μ-loop
 unfolding digitsOf
@@ -42,7 +42,7 @@ loop-again c =
       omega arith,
       simp length-set (l .loop .inv .1),
       rw (l .loop .inv .2, c .digit-of2 .ensures, c .before .before .digit-of .ensures)
-          (digits-turn (s .args .bytes .now) (s .args .out .now) (l .loop .i) (t .loop-test .taken) (s .pre)),
+          (digits-turn (s .args .capital) (s .args .bytes .now) (s .args .out .now) (l .loop .i) (t .loop-test .taken) (s .pre)),
     )
 
 same-length : tie.Need-same-length Inv-loop μ-loop
@@ -53,7 +53,7 @@ returns c =
     let l = c .before in
     let s = l .before .before .before in
     l .loop .inv .2
-    ∙ digits-end (s .args .bytes .now) (s .args .out .now) (l .loop .i) (omega (arith, l .loop .inv .0, c .loop-test .left)) (s .pre)
+    ∙ digits-end (s .args .capital) (s .args .bytes .now) (s .args .out .now) (l .loop .i) (omega (arith, l .loop .inv .0, c .loop-test .left)) (s .pre)
 
 pub fill-digits-spec : {M : Type 1} → statement M
 fill-digits-spec =

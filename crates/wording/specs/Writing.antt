@@ -1,0 +1,23 @@
+-- Text written into lent room from a place on: all of it, or nothing.
+-- Assumes nothing.
+use mathlib.Core.Path.{_≡_}
+use mathlib.Core.List.{List, _++_}
+use Prim.Native.Nat.{ℕ, _+_, _≤_}
+use lib.Dec.{leb}
+use lib.ListN.{length, take, drop}
+use Rattle.octets.specs.Lent.{when}
+
+-- 2 ^ 64 - 1: a place that no room reaches
+abbrev pub nowhere : ℕ
+nowhere = 18446744073709551615
+
+-- the place after s, and the room with s in it; or `nowhere`, and the room as it was
+unfoldable pub putAt : ℕ → List ℕ → List ℕ → ℕ × List ℕ
+putAt at s room =
+    when (leb (at + length s) (length room)) (at + length s, take at room ++ (s ++ drop (at + length s) room)) (nowhere, room)
+
+-- s was written at the place `at`, where it fits; the rest is as before, and `end` is the place after it
+pub record Wrote (at : ℕ) (s before after : List ℕ) (end : ℕ) : Type 0 where
+  pub fits : at + length s ≤ length before
+  pub place : end ≡ at + length s
+  pub text : after ≡ take at before ++ (s ++ drop (at + length s) before)
