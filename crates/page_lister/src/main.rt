@@ -2,10 +2,12 @@
 use libc::STDIN_FILENO;
 use libc::STDOUT_FILENO;
 
+const ROOM: usize = 4097;
+
 fn main() {
-    let mut page = [0u8; 4097];
+    let mut page = [0u8; ROOM];
     let n = io::read_full(STDIN_FILENO, &mut page);
-    let text = lister::list_page(&page[..n]);
+    let text = page_text::list_page(&page[..n]);
     let size = text.size;
     let bytes = text.bytes;
     io::write_all(STDOUT_FILENO, &bytes[..size]);

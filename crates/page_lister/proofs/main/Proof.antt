@@ -6,7 +6,7 @@ use native.Mathlib.Omega.{arith}
 use borrow.Author.Needs.{needs}
 use lib.ListN.{length, take}
 use lib.Seq.{length-take-le}
-use Rattle.lister.proofs.Laws.{text-room}
+use Rattle.page_text.proofs.Laws.{text-room}
 use Rattle.page_lister.proofs.main.Statement.{statement}
 use Rattle.page_lister.proofs.main.Tie as tie
 

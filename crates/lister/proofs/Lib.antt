@@ -1,4 +1,0 @@
-pub mod Decimal
-pub mod Listing
-pub mod Wrote
-pub mod Laws
