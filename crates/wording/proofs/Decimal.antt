@@ -2,13 +2,13 @@
 -- Assumes nothing.
 use mathlib.Core.Path.{_≡_, refl, sym, ap, _∙_}
 use mathlib.Core.Bool.{Bool, true, false}
-use mathlib.Core.List.{List, [], _∷_, _++_, append-assoc}
+use mathlib.Core.List.{List, [], _∷_, _++_, append-assoc, append-nil}
 use Prim.Native.Nat.{ℕ, zero, suc, _+_, _-_, _*_, _/_, _%_, _^_, _≤_, _<_}
 use native.Mathlib.Nat.{pow-suc, div-lt-iff-lt-mul, lt-of-lt-of-le}
 use native.Mathlib.Omega.{arith}
 use lib.Dec.{ltb, lit<, lit≤}
-use lib.ListN.{length, getD, set, take, drop, length-append, length-drop, List·getD-append}
-use lib.Seq.{length-take-le, set-split, drop-at}
+use lib.ListN.{length, getD, set, take, drop, replicate, length-append, length-drop, length-set, List·getD-append}
+use lib.Seq.{take-all, length-take-le, set-split, drop-at}
 use borrow.Author.Tests.{ltb-true, ltb-false, lt-ltb, le-ltb, le-leb}
 use Rattle.octets.specs.Tests.{all}
 use Rattle.octets.proofs.Tests.{and-left, and-right}
@@ -39,11 +39,11 @@ within-enough (suc k) (suc j) n hk hj = go (ltb n 10) refl (within-enough k j (n
 
 -- ---- the digits of a number
 
-pub decimal-small : (n : ℕ) → n < 10 → decimal n ≡ decimalDigit n ∷ []
+decimal-small : (n : ℕ) → n < 10 → decimal n ≡ decimalDigit n ∷ []
 unfolding decimal
 decimal-small n h = within-small n n h
 
-pub decimal-more : (n : ℕ) → 10 ≤ n → decimal n ≡ decimal (n / 10) ++ decimalDigit (n % 10) ∷ []
+decimal-more : (n : ℕ) → 10 ≤ n → decimal n ≡ decimal (n / 10) ++ decimalDigit (n % 10) ∷ []
 unfolding decimal
 decimal-more n h =
     within-enough n (suc n) n (omega arith) (omega arith)
@@ -122,32 +122,48 @@ within-first (suc k) n h e = go (ltb n 10) refl (within-first k (n / 10) (omega 
         let large : 10 ≤ n = ltb-false n 10 t in
         omega arith
 
--- ---- the loop that finds them from the last to the first: those of n are those of what is left, and what is written from a place on
+-- ---- found from the last to the first: the digits of n are those of what is left, and those that stand from a place on
 
-pub decimal-some : (n : ℕ) → 0 < length (decimal n)
+decimal-some : (n : ℕ) → 0 < length (decimal n)
 unfolding decimal
 decimal-some n = within-some n n (omega arith)
 
-module _ (n rest first : ℕ) (digits : List ℕ) (small : n < 2 ^ 64) (size : length digits ≡ 20) (within : first ≤ 20)
-    (found : decimal n ≡ decimal rest ++ drop first digits) where
-  pub place-left : 0 < first
-  place-left =
-      omega (arith, length-decimal64 n small, decimal-some rest, ap length found ∙ length-append (decimal rest) (drop first digits), length-drop first digits)
+pub record Found (n rest first : ℕ) (digits : List ℕ) : Type 0 where
+  pub size : length digits ≡ 20
+  pub within : first ≤ 20
+  pub are : decimal n ≡ decimal rest ++ drop first digits
+
+pub found-none : (n : ℕ) → Found n n 20 (replicate 20 0)
+found-none n = record { size = refl; within = lit≤ tt; are = sym (append-nil (decimal n)) }
+
+module _ {n rest first : ℕ} {digits : List ℕ} (small : n < 2 ^ 64) (f : Found n rest first digits) where
+  -- 20 digits are enough, so that a place is left
+  pub found-left : 0 < first
+  found-left =
+      omega (arith, length-decimal64 n small, decimal-some rest, ap length (f .are) ∙ length-append (decimal rest) (drop first digits), length-drop first digits)
 
   one-more : (v : ℕ) → drop (first - 1) (set digits (first - 1) v) ≡ v ∷ drop first digits
   one-more v =
-      let next : suc (first - 1) ≡ first = omega (arith, place-left) in
+      let next : suc (first - 1) ≡ first = omega (arith, found-left) in
       let before : length (take (first - 1) digits) ≡ first - 1 = length-take-le (first - 1) digits (omega arith) in
-      ap (drop (first - 1)) (set-split digits (first - 1) v (omega (arith, place-left)))
+      ap (drop (first - 1)) (set-split digits (first - 1) v (omega (arith, found-left)))
       ∙ drop-at (take (first - 1) digits) (v ∷ drop (suc (first - 1)) digits) (first - 1) before
       ∙ ap (λ (k : ℕ). v ∷ drop k digits) next
 
-  pub decimal-turn : 10 ≤ rest → decimal n ≡ decimal (rest / 10) ++ drop (first - 1) (set digits (first - 1) (decimalDigit (rest % 10)))
-  decimal-turn h =
-      found
-      ∙ ap (λ (s : List ℕ). s ++ drop first digits) (decimal-more rest h)
-      ∙ append-assoc (decimal (rest / 10)) (decimalDigit (rest % 10) ∷ []) (drop first digits)
-      ∙ ap (λ (s : List ℕ). decimal (rest / 10) ++ s) (sym (one-more (decimalDigit (rest % 10))))
+  pub found-turn : 10 ≤ rest → Found n (rest / 10) (first - 1) (set digits (first - 1) (decimalDigit (rest % 10)))
+  found-turn h = record {
+    size = simp length-set (f .size);
+    within = omega arith;
+    are =
+        f .are
+        ∙ ap (λ (s : List ℕ). s ++ drop first digits) (decimal-more rest h)
+        ∙ append-assoc (decimal (rest / 10)) (decimalDigit (rest % 10) ∷ []) (drop first digits)
+        ∙ ap (λ (s : List ℕ). decimal (rest / 10) ++ s) (sym (one-more (decimalDigit (rest % 10))));
+  }
 
-  pub decimal-end : rest < 10 → drop (first - 1) (set digits (first - 1) (decimalDigit rest)) ≡ decimal n
-  decimal-end h = one-more (decimalDigit rest) ∙ sym (found ∙ ap (λ (s : List ℕ). s ++ drop first digits) (decimal-small rest h))
+  -- the last of them, and the string from its place on
+  pub found-end : rest < 10 → take (20 - (first - 1)) (drop (first - 1) (set digits (first - 1) (decimalDigit rest))) ≡ decimal n
+  found-end h =
+      take-all (20 - (first - 1)) (drop (first - 1) (set digits (first - 1) (decimalDigit rest))) (simp (length-drop, length-set) (omega arith))
+      ∙ one-more (decimalDigit rest)
+      ∙ sym (f .are ∙ ap (λ (s : List ℕ). s ++ drop first digits) (decimal-small rest h))

@@ -96,14 +96,11 @@ module _ (d : ℕ) (below : d < 16) where
 
 -- ---- one store more into a lent output: the p elements before it are written, and the rest is as it was
 
-pub more-written : (p d : List ℕ) (i v : ℕ) → length p ≡ i → i < length d → set (p ++ drop i d) i v ≡ (p ++ v ∷ []) ++ drop (i + 1) d
+more-written : (p d : List ℕ) (i v : ℕ) → length p ≡ i → i < length d → set (p ++ drop i d) i v ≡ (p ++ v ∷ []) ++ drop (i + 1) d
 more-written p d i v e h =
     rw (add-one, drop-cons d i 0 h) (set-at p (getD d i 0) (drop (suc i) d) v i e ∙ sym (append-snoc p v (drop (suc i) d)))
 
 -- ---- bytes
-
-double : (k : ℕ) → 2 * suc k ≡ suc (suc (2 * k))
-double k = omega arith
 
 pub length-hexBytes : (k : ℕ) (s : List ℕ) → length s ≡ 2 * k → length (hexBytes s) ≡ k
 unfolding hexBytes
