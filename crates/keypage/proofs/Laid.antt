@@ -12,7 +12,7 @@ use Rattle.octets.specs.Lent.{when}
 use Rattle.octets.specs.Tests.{every}
 use Rattle.octets.proofs.Lent.{isNot-false, isNot-right}
 use Rattle.octets.proofs.Tests.{every-at}
-use Rattle.keytable.specs.Row.{nameMax, keySize}
+use Rattle.keytable.specs.Row.{nameMax, rowKeySize}
 use Rattle.keypage.specs.KeyPart.{plainFormat, referenceFormat, wrappedFormat, referenceMin, kekType, identifierSize, identifierAt, wrappedTests, partBroken, partRefused, partLong, needsRow}
 use Rattle.keypage.specs.Laws.{PartLaid, plain, reference, wrapped}
 
@@ -67,13 +67,13 @@ pub record PartPassed (f : ℕ) (s : List ℕ) : Type 0 where
   pub short : partLong f s ≡ false
 
 module _ (s : List ℕ) where
-  pub plain-size : PartPassed plainFormat s → length s ≡ keySize
+  pub plain-size : PartPassed plainFormat s → length s ≡ rowKeySize
   unfolding partBroken
-  plain-size h = isNot-false keySize s (h .whole)
+  plain-size h = isNot-false rowKeySize s (h .whole)
 
-  laid-plain : length s ≡ keySize → PartPassed plainFormat s
+  laid-plain : length s ≡ rowKeySize → PartPassed plainFormat s
   unfolding partBroken partRefused partLong
-  laid-plain size = record { whole = isNot-right keySize s size; permitted = refl; short = refl }
+  laid-plain size = record { whole = isNot-right rowKeySize s size; permitted = refl; short = refl }
 
   reference-laid : PartPassed referenceFormat s → PartLaid referenceFormat s
   unfolding partBroken partLong

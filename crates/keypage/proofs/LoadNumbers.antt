@@ -10,11 +10,11 @@ use lib.Dec.{eqb, ltb}
 use lib.ListN.{length}
 use Rattle.octets.specs.Lent.{when, Tests, lowest, over, kept, answer}
 use Rattle.octets.proofs.Lent.{isNot-right}
-use Rattle.keytable.specs.Row.{keySize, useOf, keyOf}
+use Rattle.keytable.specs.Row.{rowKeySize, useOf, rowKey}
 use Rattle.keywrap.specs.Calls.{unwrapNumber, unwrapAnswer}
 use Rattle.keypage.specs.Page.{algorithmIn, formatIn, keyPart, fieldsOf}
 use Rattle.keypage.specs.KeyPart.{kekUse, wrappedOf}
-use Rattle.keypage.specs.Read.{readTests, readNumber}
+use Rattle.keypage.specs.Read.{pageReadTests, pageReadNumber}
 use Rattle.keypage.specs.Load.{partTests, keyLoaded, partAnswer, loadTests, loadNumber, loadRow}
 use Rattle.keypage.proofs.ReadNumbers.{accepted}
 
@@ -38,7 +38,7 @@ module _ (row : Option (List ℕ)) (algorithm : ℕ) (s out : List ℕ) where
     unfolding keyLoaded
     reference-seven e = rw (has, e)
 
-    pub reference-zero : eqb (useOf found) algorithm ≡ true → partAnswer row algorithm 1 s out ≡ (0, over (keyOf found) out)
+    pub reference-zero : eqb (useOf found) algorithm ≡ true → partAnswer row algorithm 1 s out ≡ (0, over (rowKey found) out)
     unfolding keyLoaded
     reference-zero e = rw (has, e)
 
@@ -47,10 +47,10 @@ module _ (row : Option (List ℕ)) (algorithm : ℕ) (s out : List ℕ) where
     wrapped-seven e = rw (has, e)
 
     -- the unwrapping's own 2 and 5 cannot come
-    pub wrapped-rest : eqb (useOf found) kekUse ≡ true → length (keyOf found) ≡ keySize → keySize ≤ length out
-        → partAnswer row algorithm 4 s out ≡ unwrapAnswer (keyOf found) (wrappedOf s) out
+    pub wrapped-rest : eqb (useOf found) kekUse ≡ true → length (rowKey found) ≡ rowKeySize → rowKeySize ≤ length out
+        → partAnswer row algorithm 4 s out ≡ unwrapAnswer (rowKey found) (wrappedOf s) out
     unfolding keyLoaded unwrapAnswer unwrapNumber
-    wrapped-rest e size room = rw (has, e, isNot-right 32 (keyOf found) size, le-ltb (length out) 32 room)
+    wrapped-rest e size room = rw (has, e, isNot-right 32 (rowKey found) size, le-ltb (length out) 32 room)
 
 -- ---- the load
 
@@ -71,23 +71,23 @@ module _ (ok : Bool) (row : Option (List ℕ)) (p out fields : List ℕ) where
 
   module _ (good : ok ≡ true) where
     -- a page that reading refuses
-    unread-number : (n : ℕ) → n ≡ readNumber p → (n ≡ 0 → ⊥) → loadNumber ok row p (length out) ≡ n
-    unfolding loadNumber readNumber
+    unread-number : (n : ℕ) → n ≡ pageReadNumber p → (n ≡ 0 → ⊥) → loadNumber ok row p (length out) ≡ n
+    unfolding loadNumber pageReadNumber
     unread-number n is refused =
         ap (λ (b : Bool). lowest (loadTests b row p (length out))) good
-        ∙ lowest-first (readTests p) ((5, ltb (length out) keySize) ∷ partTests row (algorithmIn p) (formatIn p) (keyPart p)) (λ z. refused (is ∙ z))
+        ∙ lowest-first (pageReadTests p) ((5, ltb (length out) rowKeySize) ∷ partTests row (algorithmIn p) (formatIn p) (keyPart p)) (λ z. refused (is ∙ z))
         ∙ sym is
 
-    pub load-unread : (n : ℕ) → n ≡ readNumber p → (n ≡ 0 → ⊥) → loadRow ok row p out fields ≡ ((n, out), fields)
+    pub load-unread : (n : ℕ) → n ≡ pageReadNumber p → (n ≡ 0 → ⊥) → loadRow ok row p out fields ≡ ((n, out), fields)
     unfolding loadRow
     load-unread n is refused = rw (unread-number n is refused, ne-eqb n 0 refused)
 
-    module _ (readable : readNumber p ≡ 0) where
-      pub load-five : ltb (length out) keySize ≡ true → loadRow ok row p out fields ≡ ((5, out), fields)
+    module _ (readable : pageReadNumber p ≡ 0) where
+      pub load-five : ltb (length out) rowKeySize ≡ true → loadRow ok row p out fields ≡ ((5, out), fields)
       unfolding loadRow loadNumber
       load-five e = rw (good, accepted p readable .0, accepted p readable .1, accepted p readable .2, e)
 
-      module _ (room : ltb (length out) keySize ≡ false) where
+      module _ (room : ltb (length out) rowKeySize ≡ false) where
         load-number : loadNumber ok row p (length out) ≡ lowest (partTests row (algorithmIn p) (formatIn p) (keyPart p))
         unfolding loadNumber
         load-number = rw (good, accepted p readable .0, accepted p readable .1, accepted p readable .2, room)

@@ -11,7 +11,7 @@ use lib.Dec.{eqb}
 use lib.ListN.{length}
 use Rattle.octets.specs.Lent.{lowest, over, answer}
 use Rattle.octets.proofs.Lent.{isNot-false, isNot-right}
-use Rattle.keytable.specs.Row.{keySize, useOf, keyOf}
+use Rattle.keytable.specs.Row.{rowKeySize, useOf, rowKey}
 use Rattle.keytable.specs.Table.{tableOk}
 use Rattle.keywrap.specs.Calls.{wrappedSize, unwrapNumber, unwrapAnswer}
 use Rattle.keypage.specs.Page.{algorithmIn, formatIn, keyPart, fieldsOf}
@@ -51,11 +51,11 @@ module _ (row : List ℕ) (algorithm : ℕ) (s : List ℕ) where
   wrapped-size e = isNot-false wrappedSize (wrappedOf s) (none-applies (partTests (some row) algorithm wrappedFormat s) 2 refl e)
 
   -- a wrapped part with the row of a KEK is answered as unwrapping by that KEK is
-  pub wrapped-answer : (out : List ℕ) → useOf row ≡ kekUse → length (keyOf row) ≡ keySize → keySize ≤ length out
-      → answer (partNumber (some row) algorithm wrappedFormat s) (keyLoaded (some row) wrappedFormat s) out ≡ unwrapAnswer (keyOf row) (wrappedOf s) out
+  pub wrapped-answer : (out : List ℕ) → useOf row ≡ kekUse → length (rowKey row) ≡ rowKeySize → rowKeySize ≤ length out
+      → answer (partNumber (some row) algorithm wrappedFormat s) (keyLoaded (some row) wrappedFormat s) out ≡ unwrapAnswer (rowKey row) (wrappedOf s) out
   unfolding keyLoaded unwrapAnswer unwrapNumber
   wrapped-answer out use-is size room =
-      rw (eq-eqb (useOf row) kekUse use-is, isNot-right keySize (keyOf row) size, le-ltb (length out) keySize room)
+      rw (eq-eqb (useOf row) kekUse use-is, isNot-right rowKeySize (rowKey row) size, le-ltb (length out) rowKeySize room)
 
 -- ---- the whole call, by a format, the row found for it and the key it then gives
 
@@ -68,14 +68,14 @@ numberIn t p f = partNumber (rowGiven t p f) (algorithmIn p) f (keyPart p)
 abbrev pub keyGiven : List ℕ → List ℕ → ℕ → List ℕ
 keyGiven t p f = keyLoaded (rowGiven t p f) f (keyPart p)
 
-load-number : (ok : Bool) (row : Option (List ℕ)) (p : List ℕ) (room : ℕ) → ok ≡ true → ReadPassed p → keySize ≤ room
+load-number : (ok : Bool) (row : Option (List ℕ)) (p : List ℕ) (room : ℕ) → ok ≡ true → ReadPassed p → rowKeySize ≤ room
     → loadNumber ok row p room ≡ partNumber row (algorithmIn p) (formatIn p) (keyPart p)
 unfolding loadNumber
-load-number ok row p room accepted passed fits = rw (accepted, passed .whole, passed .permitted, passed .short, le-ltb room keySize fits)
+load-number ok row p room accepted passed fits = rw (accepted, passed .whole, passed .permitted, passed .short, le-ltb room rowKeySize fits)
 
 module _ (t p out fields : List ℕ) (given : Given t p out) where
   left : loadNumber (tableOk t) (rowGiven t p (formatIn p)) p (length out) ≡ numberIn t p (formatIn p)
-  left = load-number (tableOk t) (rowGiven t p (formatIn p)) p (length out) (given .accepted) (read-passed p (given .readable)) (given .room)
+  left = load-number (tableOk t) (rowGiven t p (formatIn p)) p (length out) (given .table-accepted) (read-passed p (given .readable)) (given .key-fits)
 
   module _ (f : ℕ) (is : formatIn p ≡ f) where
     pub load-zero : numberIn t p f ≡ 0 → loadAnswer t p out fields ≡ ((0, over (keyGiven t p f) out), fieldsOf p)
@@ -94,10 +94,10 @@ module _ (t p out fields : List ℕ) (given : Given t p out) where
     pub load-written : (k : List ℕ) → Loads t p out fields k → over (keyGiven t p f) out ≡ over k out
     load-written k h = ap (λ (x : (ℕ × List ℕ) × List ℕ). x .0 .1) (sym (load-zero (load-told k h)) ∙ h .answers)
 
-    pub load-key : (k : List ℕ) → length (keyGiven t p f) ≡ keySize → Loads t p out fields k → keyGiven t p f ≡ k
+    pub load-key : (k : List ℕ) → length (keyGiven t p f) ≡ rowKeySize → Loads t p out fields k → keyGiven t p f ≡ k
     load-key k size h =
-        over-injective (keyGiven t p f) k out (size ∙ sym (h .size)) (omega (arith, h .size, given .room)) (load-written k h)
+        over-injective (keyGiven t p f) k out (size ∙ sym (h .size)) (omega (arith, h .size, given .key-fits)) (load-written k h)
 
-    pub key-loads : (k : List ℕ) → numberIn t p f ≡ 0 → length k ≡ keySize → over (keyGiven t p f) out ≡ over k out → Loads t p out fields k
+    pub key-loads : (k : List ℕ) → numberIn t p f ≡ 0 → length k ≡ rowKeySize → over (keyGiven t p f) out ≡ over k out → Loads t p out fields k
     key-loads k e size same =
         record { size = size; answers = load-zero e ∙ ap (λ (l : List ℕ). ((0, l), fieldsOf p)) same }

@@ -12,43 +12,43 @@ use Rattle.octets.specs.Lent.{when}
 use Rattle.octets.specs.Tests.{every, zeros, partOf}
 use Rattle.octets.proofs.Lent.{none-applies}
 use Rattle.octets.proofs.Tests.{or-left, every-at}
-use Rattle.keypage.specs.Page.{pageCode, keyAt, formatIn, keyLength, keyPart, listIn, pageListOk, pageListCount, pageTests, pageOk, fieldsOf}
+use Rattle.keypage.specs.Page.{pageCode, keyPartAt, formatIn, keyLength, keyPart, listIn, pageListOk, pageListCount, pageTests, pageOk, fieldsOf}
 use Rattle.keypage.specs.KeyPart.{partBroken}
-use Rattle.keypage.specs.Read.{broken, refused, long, readTests, readNumber, readAnswer}
+use Rattle.keypage.specs.Read.{broken, refused, long, pageReadTests, pageReadNumber, pageReadAnswer}
 
 -- the tests of a page's own layout, by what the code has read of it
 pub page-tested : (p : List ℕ) (code size first key : ℕ) (reserved listed : Bool) → code ≡ numberAt 2 p 0 → size ≡ numberAt 2 p 2 → first ≡ getD p 4 0
     → reserved ≡ zeros (partOf p 10 8) → key ≡ keyLength p → listed ≡ pageListOk (listIn p)
-    → every (eqb code pageCode ∷ eqb (length p) (size + 4) ∷ eqb (first / 2 % 16) 0 ∷ reserved ∷ leb (keyAt + key) (length p) ∷ listed ∷ []) ≡ pageOk p
+    → every (eqb code pageCode ∷ eqb (length p) (size + 4) ∷ eqb (first / 2 % 16) 0 ∷ reserved ∷ leb (keyPartAt + key) (length p) ∷ listed ∷ []) ≡ pageOk p
 unfolding pageOk
 page-tested p code size first key reserved listed e1 e2 e3 e4 e5 e6 = rw (e1, e2, e3, e4, e5, e6)
 
 -- ---- each number by the tests that led there
 
 module _ (p : List ℕ) where
-  pub read-two : broken p ≡ true → readNumber p ≡ 2
-  unfolding readNumber
+  pub read-two : broken p ≡ true → pageReadNumber p ≡ 2
+  unfolding pageReadNumber
   read-two e = rw e
 
-  pub read-three : broken p ≡ false → refused p ≡ true → readNumber p ≡ 3
-  unfolding readNumber
+  pub read-three : broken p ≡ false → refused p ≡ true → pageReadNumber p ≡ 3
+  unfolding pageReadNumber
   read-three e f = rw (e, f)
 
-  pub read-four : broken p ≡ false → refused p ≡ false → long p ≡ true → readNumber p ≡ 4
-  unfolding readNumber
+  pub read-four : broken p ≡ false → refused p ≡ false → long p ≡ true → pageReadNumber p ≡ 4
+  unfolding pageReadNumber
   read-four e f g = rw (e, f, g)
 
-  pub read-zero : broken p ≡ false → refused p ≡ false → long p ≡ false → readNumber p ≡ 0
-  unfolding readNumber
+  pub read-zero : broken p ≡ false → refused p ≡ false → long p ≡ false → pageReadNumber p ≡ 0
+  unfolding pageReadNumber
   read-zero e f g = rw (e, f, g)
 
 -- ---- the number 0: no test applies
 
-pub accepted : (p : List ℕ) → readNumber p ≡ 0 → (broken p ≡ false) × (refused p ≡ false) × (long p ≡ false)
-unfolding readNumber
-accepted p e = (none-applies (readTests p) 0 refl e, none-applies (readTests p) 1 refl e, none-applies (readTests p) 2 refl e)
+pub accepted : (p : List ℕ) → pageReadNumber p ≡ 0 → (broken p ≡ false) × (refused p ≡ false) × (long p ≡ false)
+unfolding pageReadNumber
+accepted p e = (none-applies (pageReadTests p) 0 refl e, none-applies (pageReadTests p) 1 refl e, none-applies (pageReadTests p) 2 refl e)
 
-pub list-good : (p : List ℕ) → readNumber p ≡ 0 → pageListOk (listIn p) ≡ true
+pub list-good : (p : List ℕ) → pageReadNumber p ≡ 0 → pageListOk (listIn p) ≡ true
 unfolding pageOk
 list-good p e =
     every-at (pageTests p) 5 (not-false (pageOk p) (or-left (not (pageOk p)) (partBroken (formatIn p) (keyPart p)) (accepted p e .0)))
@@ -59,11 +59,11 @@ counted p l n ok is e = e ∙ rw (is, ok)
 
 -- ---- the answer, by the number that the code has
 
-module _ (p fields : List ℕ) (n : ℕ) (is : n ≡ readNumber p) where
-  pub answer-refused : (n ≡ 0 → ⊥) → readAnswer p fields ≡ (n, fields)
-  unfolding readAnswer
+module _ (p fields : List ℕ) (n : ℕ) (is : n ≡ pageReadNumber p) where
+  pub answer-refused : (n ≡ 0 → ⊥) → pageReadAnswer p fields ≡ (n, fields)
+  unfolding pageReadAnswer
   answer-refused refused = rw (← is, ne-eqb n 0 refused)
 
-  pub answer-fields : n ≡ 0 → readAnswer p fields ≡ (0, fieldsOf p)
-  unfolding readAnswer
+  pub answer-fields : n ≡ 0 → pageReadAnswer p fields ≡ (0, fieldsOf p)
+  unfolding pageReadAnswer
   answer-fields done = rw (← is, done)

@@ -14,7 +14,7 @@ use Rattle.descriptors.specs.Parse.{split}
 use Rattle.descriptors.specs.Tested.{risesFrom, splitOk, unreserved}
 use Rattle.keypage.specs.Page.{pageOk, fieldsOk}
 use Rattle.keypage.specs.KeyPart.{partBroken, partRefused, partLong}
-use Rattle.keypage.specs.Read.{readNumber}
+use Rattle.keypage.specs.Read.{pageReadNumber}
 use Rattle.lister.specs.Decimal.{decimal}
 use Rattle.lister.specs.Listing.{fieldLines, listingNumber, listing, textMax, textAnswer}
 use Rattle.lister.specs.Laws.{DecimalReads, DecimalDigits, NoZeroBefore, LongRefused, EmptyRefused, ExampleListed, TextRoom, TextUnique}
@@ -37,11 +37,11 @@ pub long-refused : LongRefused
 long-refused p long = listing-long p long
 
 pub empty-refused : EmptyRefused
-unfolding listing listingNumber readNumber pageOk partBroken
+unfolding listing listingNumber pageReadNumber pageOk partBroken
 empty-refused = refl
 
 pub example-listed : ExampleListed
-unfolding listing listingNumber fieldLines readNumber pageOk fieldsOk partBroken partRefused partLong splitOk risesFrom unreserved split sizeOf sizeSaid all
+unfolding listing listingNumber fieldLines pageReadNumber pageOk fieldsOk partBroken partRefused partLong splitOk risesFrom unreserved split sizeOf sizeSaid all
 example-listed = refl
 
 pub text-room : TextRoom

@@ -6,7 +6,7 @@ use Prim.Native.Nat.{ℕ, _≤_, _<_}
 use lib.ListN.{length, getD}
 use borrow.Author.Tests.{lt-ltb, le-ltb, ne-eqb}
 use Rattle.keypage.specs.Page.{pageMax, fieldsOf}
-use Rattle.keypage.specs.Read.{readNumber, readAnswer}
+use Rattle.keypage.specs.Read.{pageReadNumber, pageReadAnswer}
 use Rattle.lister.specs.Lines.{line, refusedWord}
 use Rattle.lister.specs.Listing.{linesOf, fieldLines, listingNumber, listing}
 
@@ -15,9 +15,9 @@ unfolding listing listingNumber
 listing-long p long = rw (lt-ltb pageMax (length p) long)
 
 -- what reading answered
-module _ (p before : List ℕ) (short : length p ≤ pageMax) {after : List ℕ} {n : ℕ} (reads : readAnswer p before ≡ (n, after)) where
-  number : readNumber p ≡ n
-  unfolding readAnswer
+module _ (p before : List ℕ) (short : length p ≤ pageMax) {after : List ℕ} {n : ℕ} (reads : pageReadAnswer p before ≡ (n, after)) where
+  number : pageReadNumber p ≡ n
+  unfolding pageReadAnswer
   number = ap (λ (a : ℕ × List ℕ). a .0) reads
 
   list-number : listingNumber p ≡ n
@@ -29,7 +29,7 @@ module _ (p before : List ℕ) (short : length p ≤ pageMax) {after : List ℕ}
   listing-refused refused = rw (list-number, ne-eqb n 0 refused)
 
   fields : n ≡ 0 → after ≡ fieldsOf p
-  unfolding readAnswer
+  unfolding pageReadAnswer
   fields done = sym (ap (λ (a : ℕ × List ℕ). a .1) reads) ∙ rw (number, done)
 
   pub listing-fields

@@ -6,7 +6,7 @@ use lib.Dec.{eqb, ltb}
 use lib.ListN.{length, replicate}
 use Rattle.octets.specs.Lent.{when, over}
 use Rattle.keypage.specs.Page.{pageMax, scopeIn, lockIn, encryptionIn, decryptionIn, algorithmIn, formatIn, keyLength, listIn, pageListCount}
-use Rattle.keypage.specs.Read.{readNumber}
+use Rattle.keypage.specs.Read.{pageReadNumber}
 use Rattle.lister.specs.Lines.{line, scopeWord, lockWord, encryptWord, decryptWord, algorithmWord, formatWord, keyLengthWord, descriptorsWord, refusedWord}
 
 -- "scope 2", "lock 0", "encrypt 2", "decrypt 2", "algorithm 2", "format 4", "key length 46", "descriptors 0"
@@ -27,7 +27,7 @@ fieldLines p =
 
 -- "Its tests are 2, 3 and 4." "One over 4,096 bytes prints `refused 4` with no other test."
 unfoldable pub listingNumber : List ℕ → ℕ
-listingNumber p = when (ltb pageMax (length p)) 4 (readNumber p)
+listingNumber p = when (ltb pageMax (length p)) 4 (pageReadNumber p)
 
 unfoldable pub listing : List ℕ → List ℕ
 listing p = when (eqb (listingNumber p) 0) (fieldLines p) (line refusedWord (listingNumber p))

@@ -8,7 +8,7 @@ use native.Mathlib.Omega.{arith}
 use lib.ListN.{length}
 use Rattle.octets.specs.Lent.{lowest, over, answer}
 use Rattle.octets.specs.Tests.{partOf}
-use Rattle.keytable.specs.Row.{keySize}
+use Rattle.keytable.specs.Row.{rowKeySize}
 use Rattle.modes.specs.Calls.{decryptAnswer}
 use Rattle.modes.proofs.Numbers.{decrypt-in-range}
 use Rattle.modes.specs.Modes.{modeOf}
@@ -38,7 +38,7 @@ module _ (right : Bool) (s out after : List ℕ) (x : ℕ) (e : answer (lowest (
 
 -- decrypting the parts: the tag decides
 pub parts-opened : (key r a out : List ℕ) → layoutOk r ≡ true → passes (nameSize r) (countIn r) ≡ false
-    → length key ≡ keySize → length a ≤ callersMax → countIn r ≤ length out
+    → length key ≡ rowKeySize → length a ≤ callersMax → countIn r ≤ length out
     → decryptAnswer (modeFor r) key (ivIn r) (frontIn r) a (textIn r) (tagIn r) out
     ≡ answer (lowest ((9, not (authenticBy key r a)) ∷ [])) (plaintextBy key r) out
 unfolding authenticBy plaintextBy
@@ -49,7 +49,7 @@ parts-opened key r a out good short key-right aad-short room =
 
 -- the same, of parts cut by fields that were read, and by the mode's lengths
 pub fields-opened : (key r a out : List ℕ) (u k n v t : ℕ) → Accepted r u k n → v ≡ modeOf u .ivSize → t ≡ modeOf u .tagSize
-    → length key ≡ keySize → length a ≤ callersMax → n ≤ length out
+    → length key ≡ rowKeySize → length a ≤ callersMax → n ≤ length out
     → decryptAnswer (modeOf u) key (partOf r (24 + k) v) (partOf r 0 (24 + k)) a (partOf r (24 + k + v) n) (partOf r (24 + k + v + n) t) out
     ≡ answer (lowest ((9, not (authenticBy key r a)) ∷ [])) (plaintextBy key r) out
 unfolding ivIn frontIn textIn tagIn

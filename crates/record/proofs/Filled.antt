@@ -11,12 +11,12 @@ use Rattle.octets.specs.Lent.{over}
 use Rattle.octets.specs.Tests.{partOf}
 use Rattle.octets.proofs.Lent.{length-over, drop-over, over-front}
 use Rattle.octets.proofs.Tests.{rest-all}
-use Rattle.keytable.specs.Row.{nameMax, keySize}
+use Rattle.keytable.specs.Row.{nameMax, rowKeySize}
 use Rattle.modes.specs.Mode.{sealed}
 use Rattle.modes.specs.Calls.{textMax, encryptAnswer}
 use Rattle.modes.proofs.Laws.{modes-lawful}
 use Rattle.modes.specs.Modes.{modeOf}
-use Rattle.record.specs.Record.{endAt, header, front}
+use Rattle.record.specs.Record.{endAt, header, recordFront}
 use Rattle.record.specs.Seal.{callersMax, recordOf}
 use Rattle.record.proofs.Written.{length-front}
 use Rattle.record.proofs.Numbers.{key-size}
@@ -33,10 +33,10 @@ pub header-bytes : (u k n v : ℕ) → v ≡ modeOf u .ivSize
 unfolding header
 header-bytes u k n v e = rw (← e, div-one n, div-one k, div-one (24 + k), div-one v, div-one (24 + k + v), div-one (24 + k + v + n))
 
-pub front-cut : (u : ℕ) (name : List ℕ) (n : ℕ) (room : List ℕ) → length name ≤ nameMax → room ≡ over (front u name n) (replicate 56 0)
-    → partOf room 0 (24 + length name) ≡ front u name n
+pub front-cut : (u : ℕ) (name : List ℕ) (n : ℕ) (room : List ℕ) → length name ≤ nameMax → room ≡ over (recordFront u name n) (replicate 56 0)
+    → partOf room 0 (24 + length name) ≡ recordFront u name n
 front-cut u name n room short e =
-    over-front (front u name n) (replicate 56 0) room (24 + length name) (length-front u name n) (rw (length-replicate {A = ℕ} 56 0) (omega arith)) e
+    over-front (recordFront u name n) (replicate 56 0) room (24 + length name) (length-front u name n) (rw (length-replicate {A = ℕ} 56 0) (omega arith)) e
 
 -- ---- the output
 
@@ -46,22 +46,22 @@ over-append [] t d fits = refl
 over-append (x ∷ s) t [] fits = absurd (omega arith)
 over-append (x ∷ s) t (y ∷ d) fits = ap (λ (l : List ℕ). x ∷ l) (over-append s t d (omega arith))
 
-module _ (u : ℕ) (key name iv a p out : List ℕ) (key-right : length key ≡ keySize) (name-short : length name ≤ nameMax) (iv-right : length iv ≡ modeOf u .ivSize)
+module _ (u : ℕ) (key name iv a p out : List ℕ) (key-right : length key ≡ rowKeySize) (name-short : length name ≤ nameMax) (iv-right : length iv ≡ modeOf u .ivSize)
     (permitted : modeOf u .permits (length p) ≡ true) (aad-short : length a ≤ callersMax) (plain-short : length p ≤ textMax) (room : endAt (modeOf u) (length name) (length p) ≤ length out) where
   -- what the mode makes of a part that has room
   encrypted : (part ys : List ℕ) (x : ℕ) → length p + modeOf u .tagSize ≤ length part
-      → encryptAnswer (modeOf u) key iv (front u name (length p)) a p part ≡ (x, ys)
-      → ys ≡ over (sealed (modeOf u) key iv (front u name (length p) ++ a) p) part
+      → encryptAnswer (modeOf u) key iv (recordFront u name (length p)) a p part ≡ (x, ys)
+      → ys ≡ over (sealed (modeOf u) key iv (recordFront u name (length p) ++ a) p) part
   encrypted part ys x fits e = ap (λ (z : ℕ × List ℕ). z .1) (sym e ∙ done)
     where
-      done : encryptAnswer (modeOf u) key iv (front u name (length p)) a p part ≡ (0, over (sealed (modeOf u) key iv (front u name (length p) ++ a) p) part)
+      done : encryptAnswer (modeOf u) key iv (recordFront u name (length p)) a p part ≡ (0, over (sealed (modeOf u) key iv (recordFront u name (length p) ++ a) p) part)
       done =
-          modes-lawful u .encrypts-in-range key iv (front u name (length p)) a p part (key-right ∙ sym (key-size u)) iv-right permitted
+          modes-lawful u .encrypts-in-range key iv (recordFront u name (length p)) a p part (key-right ∙ sym (key-size u)) iv-right permitted
           (omega (arith, length-front u name (length p))) plain-short fits
 
   -- the front and the IV are written, and then the rest
-  pub filled : (d ys : List ℕ) (x : ℕ) → d ≡ over (front u name (length p) ++ iv) out
-      → encryptAnswer (modeOf u) key iv (front u name (length p)) a p (take (length d - (24 + length name + length iv)) (drop (24 + length name + length iv) d)) ≡ (x, ys)
+  pub filled : (d ys : List ℕ) (x : ℕ) → d ≡ over (recordFront u name (length p) ++ iv) out
+      → encryptAnswer (modeOf u) key iv (recordFront u name (length p)) a p (take (length d - (24 + length name + length iv)) (drop (24 + length name + length iv) d)) ≡ (x, ys)
       → take (24 + length name + length iv) d ++ (ys ++ drop (length d - (24 + length name + length iv)) (drop (24 + length name + length iv) d))
       ≡ over (recordOf u key name iv a p) out
   unfolding recordOf
@@ -72,7 +72,7 @@ module _ (u : ℕ) (key name iv a p out : List ℕ) (key-right : length key ≡ 
       ∙ ap (λ (l : List ℕ). over l out) (append-assoc F iv S)
     where
       F : List ℕ
-      F = front u name (length p)
+      F = recordFront u name (length p)
 
       S : List ℕ
       S = sealed (modeOf u) key iv (F ++ a) p

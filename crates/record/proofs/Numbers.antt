@@ -11,7 +11,7 @@ use lib.Dec.{eqb, ltb}
 use lib.ListN.{length}
 use Rattle.octets.specs.Lent.{isNot, lowest, over}
 use Rattle.octets.proofs.Tests.{or-left, or-right}
-use Rattle.keytable.specs.Row.{nameMax, useOf, keyOf}
+use Rattle.keytable.specs.Row.{nameMax, useOf, rowKey}
 use Rattle.keytable.specs.Calls.{missing, useIn}
 use Rattle.modes.specs.Calls.{textMax}
 use Rattle.modes.proofs.Named.{each-mode}
@@ -133,11 +133,11 @@ module _ (ok : Bool) (row : Option (List ℕ)) (r a out : List ℕ) (count : ℕ
               open-seven e = rw (good, layout, mode-ok, short, room, has, e)
 
               module _ (same-use : eqb (useOf found) (modeIn r) ≡ true) where
-                pub open-nine : authenticBy (keyOf found) r a ≡ false → openRow ok row r a out count ≡ ((9, out), count)
+                pub open-nine : authenticBy (rowKey found) r a ≡ false → openRow ok row r a out count ≡ ((9, out), count)
                 unfolding openRow openNumber
                 open-nine e = rw (good, layout, mode-ok, short, room, has, same-use, e)
 
-                pub open-zero : authenticBy (keyOf found) r a ≡ true → openRow ok row r a out count ≡ ((0, over (plaintextBy (keyOf found) r) out), countIn r)
+                pub open-zero : authenticBy (rowKey found) r a ≡ true → openRow ok row r a out count ≡ ((0, over (plaintextBy (rowKey found) r) out), countIn r)
                 unfolding openRow openNumber
                 open-zero e = rw (good, layout, mode-ok, short, room, has, same-use, e)
 

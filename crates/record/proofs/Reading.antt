@@ -15,31 +15,31 @@ use Rattle.keytable.specs.Row.{nameMax}
 use Rattle.modes.specs.Calls.{textMax}
 use Rattle.modes.specs.Modes.{namesMode}
 use Rattle.record.specs.Record.{modeIn, countIn, nameSize, layoutOk}
-use Rattle.record.specs.Read.{passes, readNumber, headerSays, readAnswer}
+use Rattle.record.specs.Read.{passes, headerNumber, headerSays, headerAnswer}
 use Rattle.record.specs.Open.{openRow}
 use Rattle.record.proofs.Numbers.{open-two, open-three, open-four}
 use Rattle.record.specs.declared.header.Header.{Header}
 
 module _ (r : List ℕ) where
-  pub read-two : layoutOk r ≡ false → readAnswer r ≡ (2, [])
-  unfolding readAnswer readNumber
+  pub read-two : layoutOk r ≡ false → headerAnswer r ≡ (2, [])
+  unfolding headerAnswer headerNumber
   read-two e = rw e
 
-  pub read-three : layoutOk r ≡ true → namesMode (modeIn r) ≡ false → readAnswer r ≡ (3, [])
-  unfolding readAnswer readNumber
+  pub read-three : layoutOk r ≡ true → namesMode (modeIn r) ≡ false → headerAnswer r ≡ (3, [])
+  unfolding headerAnswer headerNumber
   read-three e f = rw (e, f)
 
-  pub read-four : layoutOk r ≡ true → namesMode (modeIn r) ≡ true → passes (nameSize r) (countIn r) ≡ true → readAnswer r ≡ (4, [])
-  unfolding readAnswer readNumber
+  pub read-four : layoutOk r ≡ true → namesMode (modeIn r) ≡ true → passes (nameSize r) (countIn r) ≡ true → headerAnswer r ≡ (4, [])
+  unfolding headerAnswer headerNumber
   read-four e f g = rw (e, f, g)
 
   pub read-zero : layoutOk r ≡ true → namesMode (modeIn r) ≡ true → passes (nameSize r) (countIn r) ≡ false
-      → readAnswer r ≡ (0, modeIn r ∷ nameSize r ∷ countIn r ∷ [])
-  unfolding readAnswer readNumber
+      → headerAnswer r ≡ (0, modeIn r ∷ nameSize r ∷ countIn r ∷ [])
+  unfolding headerAnswer headerNumber
   read-zero e f g = rw (e, f, g)
 
-  pub read-number : (h : Header) → headerSays h ≡ readAnswer r → headerSays h .0 ≡ readNumber r
-  unfolding readAnswer
+  pub read-number : (h : Header) → headerSays h ≡ headerAnswer r → headerSays h .0 ≡ headerNumber r
+  unfolding headerAnswer
   read-number h e = ap (λ (x : ℕ × List ℕ). x .0) e
 
 -- every test passed: the fields are the record's own
@@ -58,8 +58,8 @@ pick-test true false z e = absurd (omega arith)
 pick-test true true true e = absurd (omega arith)
 pick-test true true false e = (refl, refl, refl)
 
-pub accepted : (r : List ℕ) (u k n : ℕ) → _≡_ {A = ℕ × List ℕ} (0, u ∷ k ∷ n ∷ []) (readAnswer r) → Accepted r u k n
-unfolding readAnswer readNumber
+pub accepted : (r : List ℕ) (u k n : ℕ) → _≡_ {A = ℕ × List ℕ} (0, u ∷ k ∷ n ∷ []) (headerAnswer r) → Accepted r u k n
+unfolding headerAnswer headerNumber
 accepted r u k n e =
     record {
       layout = passed .0;
@@ -86,15 +86,15 @@ module _ (r : List ℕ) where
 
 -- ---- a record that reading refuses, opened
 
-pub open-unread : (row : Option (List ℕ)) (r a out : List ℕ) (count : ℕ) (h : Header) → headerSays h ≡ readAnswer r → (headerSays h .0 ≡ 0 → ⊥)
+pub open-unread : (row : Option (List ℕ)) (r a out : List ℕ) (count : ℕ) (h : Header) → headerSays h ≡ headerAnswer r → (headerSays h .0 ≡ 0 → ⊥)
     → openRow true row r a out count ≡ ((headerSays h .0, out), count)
-unfolding readNumber
+unfolding headerNumber
 open-unread row r a out count h e never = go (layoutOk r) (namesMode (modeIn r)) (passes (nameSize r) (countIn r)) refl refl refl
   where
-    number : (n : ℕ) → readNumber r ≡ n → headerSays h .0 ≡ n
+    number : (n : ℕ) → headerNumber r ≡ n → headerSays h .0 ≡ n
     number n is = read-number r h e ∙ is
 
-    told : (n : ℕ) → readNumber r ≡ n → openRow true row r a out count ≡ ((n, out), count) → openRow true row r a out count ≡ ((headerSays h .0, out), count)
+    told : (n : ℕ) → headerNumber r ≡ n → openRow true row r a out count ≡ ((n, out), count) → openRow true row r a out count ≡ ((headerSays h .0, out), count)
     told n is o = o ∙ ap (λ (k : ℕ). ((k, out), count)) (sym (number n is))
 
     go : (x y z : Bool) → layoutOk r ≡ x → namesMode (modeIn r) ≡ y → passes (nameSize r) (countIn r) ≡ z → openRow true row r a out count ≡ ((headerSays h .0, out), count)

@@ -7,12 +7,12 @@ use mathlib.Core.Option.{Option, some, none}
 use lib.ListN.{length}
 use lib.Dec.{eqb, ltb}
 use Rattle.octets.specs.Lent.{Tests, isNot, lowest, kept, answer}
-use Rattle.keytable.specs.Row.{useOf, keyOf}
+use Rattle.keytable.specs.Row.{useOf, rowKey}
 use Rattle.keytable.specs.Table.{tableOk, dataRow, rowAt}
 use Rattle.keytable.specs.Calls.{missing, useIn}
 use Rattle.modes.specs.Mode.{sealed}
 use Rattle.modes.specs.Modes.{namesMode, modeOf}
-use Rattle.record.specs.Record.{endAt, front}
+use Rattle.record.specs.Record.{endAt, recordFront}
 use Rattle.record.specs.Read.{passes}
 use Rattle.record.specs.declared.sealing.Ready.{Ready}
 use Rattle.record.specs.declared.sealing.Ready.the-variants.{At, Refused}
@@ -24,11 +24,11 @@ callersMax = 4096
 -- "The mode's associated data is the first 24+k bytes of the record, then the caller's": the record of a use and a key
 unfoldable pub recordOf : ℕ → List ℕ → List ℕ → List ℕ → List ℕ → List ℕ → List ℕ
 recordOf u key name iv a p =
-    front u name (length p) ++ (iv ++ sealed (modeOf u) key iv (front u name (length p) ++ a) p)
+    recordFront u name (length p) ++ (iv ++ sealed (modeOf u) key iv (recordFront u name (length p) ++ a) p)
 
 abbrev pub recordBy : Option (List ℕ) → List ℕ → List ℕ → List ℕ → List ℕ → List ℕ
 recordBy none name iv a p = []
-recordBy (some row) name iv a p = recordOf (useOf row) (keyOf row) name iv a p
+recordBy (some row) name iv a p = recordOf (useOf row) (rowKey row) name iv a p
 
 -- "52+k+n": the bytes that sealing n bytes by a row fills; without a row, CCM's
 abbrev pub sealedSize : Option (List ℕ) → List ℕ → ℕ → ℕ

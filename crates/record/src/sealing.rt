@@ -19,7 +19,7 @@ ghost use mathlib.Core.Option.{some};
 ghost use Prim.Native.Nat.{_≤_};
 ghost use lib.ListN.{length};
 ghost use Rattle.octets.specs.Lent.{over};
-ghost use Rattle.keytable.specs.Row.{nameMax, keySize};
+ghost use Rattle.keytable.specs.Row.{nameMax, rowKeySize};
 ghost use Rattle.keytable.specs.Table.{dataRow, rowAt};
 ghost use Rattle.keytable.specs.Calls.{useIn};
 ghost use Rattle.keytable.specs.Find.{rowFound};
@@ -36,7 +36,7 @@ pub(crate) enum Ready {
 
 // Writes the record of a use and a key.
 fn fill(u: u8, key: &[u8], name: &[u8], iv: &[u8], aad: &[u8], plain: &[u8], out: &mut [u8])
-    requires { ⌜ (length (now key) ≡ keySize) × (length (now name) ≤ nameMax) × (length (now iv) ≡ modeOf u .ivSize)
+    requires { ⌜ (length (now key) ≡ rowKeySize) × (length (now name) ≤ nameMax) × (length (now iv) ≡ modeOf u .ivSize)
         × (modeOf u .permits (length (now plain)) ≡ true) × (length (now aad) ≤ callersMax) × (length (now plain) ≤ textMax) × (endAt (modeOf u) (length (now name)) (length (now plain)) ≤ length (now out)) ⌝ }
     ensures { λ _. ⌜ now (out .exit) ≡ over (recordOf u (now (key .entry)) (now (name .entry)) (now (iv .entry)) (now (aad .entry)) (now (plain .entry))) (now (out .entry)) ⌝ }
 {
@@ -59,7 +59,14 @@ fn use_found(table: &[u8], f: Found) -> u8
 }
 
 // Every test of sealing n bytes into so much room.
-pub(crate) fn test(table: &[u8], name: &[u8], iv: &[u8], aad: &[u8], n: usize, room: usize) -> Ready
+pub(crate) fn ready_to_seal(
+    table: &[u8],
+    name: &[u8],
+    iv: &[u8],
+    aad: &[u8],
+    n: usize,
+    room: usize,
+) -> Ready
     ensures { λ r. ⌜ readyAnswer (now (table .entry)) (now (name .entry)) (now (iv .entry)) (now (aad .entry)) n room ≡ (readyNumber r, readyRow (now (table .entry)) r) ⌝ }
 {
     let Table::Rows(_) = keytable::check(table) else {
@@ -117,7 +124,7 @@ pub(crate) fn write(
 pub fn seal(table: &[u8], name: &[u8], iv: &[u8], aad: &[u8], plain: &[u8], out: &mut [u8]) -> u8
     ensures { λ r. ⌜ sealAnswer (now (table .entry)) (now (name .entry)) (now (iv .entry)) (now (aad .entry)) (now (plain .entry)) (now (out .entry)) ≡ (r, now (out .exit)) ⌝ }
 {
-    let r = test(table, name, iv, aad, plain.len(), out.len());
+    let r = ready_to_seal(table, name, iv, aad, plain.len(), out.len());
     let Ready::At(at) = r else {
         return number_of(r);
     };

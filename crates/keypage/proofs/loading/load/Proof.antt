@@ -10,7 +10,7 @@ use Rattle.keytable.specs.Table.{tableOk}
 use Rattle.keytable.proofs.Calls.{rows-accepted, broken-refused}
 use Rattle.keypage.specs.Page.{algorithmIn, formatIn, keyPart, fieldsOk}
 use Rattle.keypage.specs.KeyPart.{partRefused}
-use Rattle.keypage.specs.Read.{readNumber}
+use Rattle.keypage.specs.Read.{pageReadNumber}
 use Rattle.keypage.specs.Load.{rowNamed, partAnswer}
 use Rattle.keypage.proofs.ReadNumbers.{accepted, list-good}
 use Rattle.keypage.proofs.LoadNumbers.{load-one, load-unread, load-five, load-refused, load-zero}
@@ -28,7 +28,7 @@ table-good c = rows-accepted _ _ _ (c .before .before .check .ensures) (c .enum-
 abbrev page : tie.Else1 → List ℕ
 page c = start (c .before .before) .args .p .now
 
-readable : (c : tie.Else1) → readNumber (page c) ≡ 0
+readable : (c : tie.Else1) → pageReadNumber (page c) ≡ 0
 readable c = sym (c .before .check2 .ensures) ∙ c .if1 .left
 
 of-its-part : (c : tie.After-key-part) (test : ℕ → List ℕ → Bool) → let p = page (c .before .before .before .before) in

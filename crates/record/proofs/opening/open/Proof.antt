@@ -14,7 +14,7 @@ use types.Run.{OneOf}
 use denote.Enum.Declared.{tagOf, declared}
 use Rattle.octets.specs.Tests.{partOf}
 use Rattle.octets.proofs.Places.{its-bytes}
-use Rattle.keytable.specs.Row.{keySize, useOf, keyOf}
+use Rattle.keytable.specs.Row.{rowKeySize, useOf, rowKey}
 use Rattle.keytable.specs.Table.{tableOk, dataRow, rowAt}
 use Rattle.keytable.proofs.Calls.{rows-accepted, broken-refused}
 use Rattle.record.specs.Record.{modeIn, countIn, nameSize, nameIn}
@@ -100,7 +100,7 @@ returns-5 c =
 
 -- the row that was found is that of the record's name
 found : (c : tie.After-at) → let a = start (checked (known (c .before .before .before .before))) .args in
-    (dataRow (a .table .now) (nameIn (a .r .now)) ≡ some (rowAt (a .table .now) (c .at .given .0 .0))) × (length (keyOf (rowAt (a .table .now) (c .at .given .0 .0))) ≡ keySize)
+    (dataRow (a .table .now) (nameIn (a .r .now)) ≡ some (rowAt (a .table .now) (c .at .given .0 .0))) × (length (rowKey (rowAt (a .table .now) (c .at .given .0 .0))) ≡ rowKeySize)
 found c =
     let at-find = c .before .before in
     let at-part = at-find .before in
@@ -154,7 +154,7 @@ returns-7 c =
     let is = is-read (known (past done)) in
     let a = start (checked (known (past done))) .args in
     let wrong =
-    tag-wrong (authenticBy (keyOf (row done)) (a .r .now) (a .aad .now)) (plaintextBy (keyOf (row done)) (a .r .now)) (a .out .now) _ _
+    tag-wrong (authenticBy (rowKey (row done)) (a .r .now) (a .aad .now)) (plaintextBy (rowKey (row done)) (a .r .now)) (a .out .now) _ _
     (rw (its-bytes (done .before .before .key-at .ensures)) at (done .open-by .ensures)) (c .if4 .taken) in
     open-nine _ _ _ _ _ _ (table-good (checked (known (past done)))) (is .layout) (is .mode-ok) (long (known (past done)) false (le-ltb _ _ (past done .before .if1 .left))) (roomy (past done)) _ (found (at done) .0)
     (same-use done) (wrong .0)
@@ -166,7 +166,7 @@ returns-8 c =
     let is = is-read (known (past done)) in
     let a = start (checked (known (past done))) .args in
     let right =
-    tag-was-right (authenticBy (keyOf (row done)) (a .r .now) (a .aad .now)) (plaintextBy (keyOf (row done)) (a .r .now)) (a .out .now) _ _
+    tag-was-right (authenticBy (rowKey (row done)) (a .r .now) (a .aad .now)) (plaintextBy (rowKey (row done)) (a .r .now)) (a .out .now) _ _
     (rw (its-bytes (done .before .before .key-at .ensures)) at (done .open-by .ensures)) (c .if4 .left) in
     open-zero _ _ _ _ _ _ (table-good (checked (known (past done)))) (is .layout) (is .mode-ok) (long (known (past done)) false (le-ltb _ _ (past done .before .if1 .left))) (roomy (past done)) _ (found (at done) .0)
     (same-use done) (right .0)

@@ -8,7 +8,7 @@ use borrow.Author.Needs.{needs}
 use lib.ListN.{length}
 use Rattle.octets.specs.Lent.{over}
 use Rattle.octets.proofs.Lent.{length-over}
-use Rattle.record.specs.Record.{front}
+use Rattle.record.specs.Record.{recordFront}
 use Rattle.record.proofs.Written.{length-front}
 use Rattle.record.proofs.Filled.{front-cut, filled}
 use Rattle.record.proofs.sealing.fill.Statement.{statement}
@@ -16,7 +16,7 @@ use Rattle.record.proofs.sealing.fill.Tie as tie
 
 -- the part of the room that is lent is the front
 is-front : (c : tie.After-part) → let a = c .before .before .before .before .before .before .before .before .before .args in
-    c .part .result .now ≡ front (a .u) (a .name .now) (length (a .plain .now))
+    c .part .result .now ≡ recordFront (a .u) (a .name .now) (length (a .plain .now))
 is-front c =
     let made = c .before .before in
     let start = made .before .before .before .before .before .before .before in

@@ -10,14 +10,14 @@ use Rattle.record.proofs.Ready.{seal-refused, seal-written}
 use Rattle.record.proofs.sealing.seal.Statement.{statement}
 use Rattle.record.proofs.sealing.seal.Tie as tie
 
-abbrev start : tie.After-test → tie.Start
+abbrev start : tie.After-ready-to-seal → tie.Start
 start c = c .before .before .before .before .before .before .before
 
 -- what the tests found, once it is known which case it is
-is : (c : tie.After-test) (r : Ready) → c .test .result ≡ r →
+is : (c : tie.After-ready-to-seal) (r : Ready) → c .ready-to-seal .result ≡ r →
     let a = start c .args in
     readyAnswer (a .table .now) (a .name .now) (a .iv .now) (a .aad .now) (length (a .plain .now)) (length (a .out .now)) ≡ (readyNumber r, readyRow (a .table .now) r)
-is c r e = c .test .ensures ∙ ap (λ (x : Ready). (readyNumber x, readyRow (start c .args .table .now) x)) e
+is c r e = c .ready-to-seal .ensures ∙ ap (λ (x : Ready). (readyNumber x, readyRow (start c .args .table .now) x)) e
 
 returns : tie.Need-returns
 returns c =

@@ -1,4 +1,4 @@
--- `record::sealing::test` meets its contract: at each return the tests passed and the one met say which number is the lowest.
+-- `record::sealing::ready_to_seal` meets its contract: at each return the tests passed and the one met say which number is the lowest.
 -- Assumes nothing.
 use mathlib.Core.Path.{_≡_, sym, ap, _∙_}
 use mathlib.Core.Bool.{Bool, true, false, _||_}
@@ -20,8 +20,8 @@ use Rattle.record.proofs.Numbers.{iv-small, tag-small, within-maxima, r
 use Rattle.keytable.proofs.Laws.{finds-row}
 use Rattle.keytable.proofs.RowFound.{not-found}
 use borrow.Author.Needs.{needs}
-use Rattle.record.proofs.sealing.test.Statement.{statement}
-use Rattle.record.proofs.sealing.test.Tie as tie
+use Rattle.record.proofs.sealing.ready_to_seal.Statement.{statement}
+use Rattle.record.proofs.sealing.ready_to_seal.Tie as tie
 
 -- past the lookup: the table is accepted, the row is what was found, and the IV's length is that of its use
 module _ (c : tie.After-iv-size) where
@@ -118,8 +118,8 @@ returns-7 c =
     (row-is (at s) ∙ ap (rowFound _) (told .before .found .given .1))
     (ap namesMode (sym (use-is (at s))) ∙ (sym (c .before .names-mode .ensures) ∙ not-false (c .before .names-mode .result) (c .if4 .left)))
 
-pub test-spec : {M : Type 1} → statement M
-test-spec =
+pub ready-to-seal-spec : {M : Type 1} → statement M
+ready-to-seal-spec =
     tie.close
     (tie.spec
     (λ c κs. search needs)
