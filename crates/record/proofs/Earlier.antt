@@ -59,18 +59,18 @@ module _ (t name iv a p : List ℕ) (room : ℕ) (table-bytes : Bytes t) (iv-byt
         h .room-fits,
       )
 
-pub seal-alike : SealEarlier
+pub seal-earlier : SealEarlier
 unfolding sealRow
-seal-alike t name iv a p out out′ table-bytes iv-bytes same =
+seal-earlier t name iv a p out out′ table-bytes iv-bytes same =
     answers-alike (number (length out)) (number (length out′)) (sealedSize (dataRow t name) name (length p)) (recordBy (dataRow t name) name iv a p) out out′
     (ap number same) same (record-fits t name iv a p (length out) table-bytes iv-bytes)
   where
     number : ℕ → ℕ
     number room = sealNumber (tableOk t) (dataRow t name) name iv a (length p) room
 
-pub next-alike : NextEarlier
+pub next-earlier : NextEarlier
 unfolding sealNextRow
-next-alike s t name a p out out′ table-bytes prefix-bytes same = (
+next-earlier s t name a p out out′ table-bytes prefix-bytes same = (
   answers-alike (number (length out)) (number (length out′)) (sealedSize (dataRow t name) name (length p)) (recordBy (dataRow t name) name (ivOf s) a p) out out′
       (ap number same) same
       (λ e.
@@ -84,9 +84,9 @@ next-alike s t name a p out out′ table-bytes prefix-bytes same = (
 
 -- ---- opening
 
-pub open-alike : OpenEarlier
+pub open-earlier : OpenEarlier
 unfolding openRow
-open-alike t r a out out′ count count′ table-bytes bytes same =
+open-earlier t r a out out′ count count′ table-bytes bytes same =
     answers-alike (number (length out)) (number (length out′)) (countIn r) (plaintextIn (dataRow t (nameIn r)) r) out out′ (ap number same) same fits
   where
     number : ℕ → ℕ

@@ -18,15 +18,14 @@ use Rattle.record.specs.Read.{headerSays, headerNumber, headerAnswer}
 use Rattle.record.specs.Seal.{sealAnswer}
 use Rattle.record.specs.Open.{plaintextBy, openNumber, openAnswer}
 use Rattle.record.specs.Demand3.{Refuses, OpensExactly, OnePlaintext, OneOpening, ElseRefuses, SealedOpens}
-use Rattle.record.specs.Laws.{HeaderThere, HeaderBack, SealsInRange, SealsOnlyInRange, SealOtherRows, OpenOtherRows, SealEarlier, NextEarlier, OpenEarlier, HeaderUnique, EndUnique, RecordCheckUnique, SealUnique, RecordOpenUnique, HeaderTestsRise, SealTestsRise, RecordTagTestsRise, OpenTestsRise}
+use Rattle.record.specs.Laws.{HeaderThere, HeaderBack, SealOtherRows, OpenOtherRows, HeaderUnique, EndUnique, RecordCheckUnique, SealUnique, RecordOpenUnique, HeaderTestsRise, SealTestsRise, RecordTagTestsRise, OpenTestsRise}
 use Rattle.record.specs.declared.header.Header.{Header}
 use Rattle.record.specs.declared.header.Header.the-variants.{Fields, BadForm, BadMode, TooLong}
 use Rattle.record.proofs.Written.{read-back, front-back}
 use Rattle.record.proofs.Laid.{Laid}
-use Rattle.record.proofs.Sealed.{range-sealed, zero-told, textBy, tagBy, SealedAs, as-keyed, seals-as, as-seals, as-laid}
+use Rattle.record.proofs.Sealed.{textBy, tagBy, SealedAs, as-keyed, seals-as, as-seals, as-laid}
 use Rattle.record.proofs.Opened.{OpenedAs, open-refused, open-number, opened-row, opens-size, opens-as, as-opens}
 use Rattle.record.proofs.Exactly.{plaintext-back, opened-sealed, sealed-opened}
-use Rattle.record.proofs.Earlier.{seal-alike, next-alike, open-alike}
 
 -- ---- demand 3
 
@@ -85,7 +84,13 @@ sealed-opens t name iv a p r out count table-bytes bytes h room =
     s : SealedAs t name iv a p r
     s = seals-as t name iv a p r table-bytes bytes h
 
-    read : Laid (useOf (s .able .found-row)) name (length p) iv (textBy (useOf (s .able .found-row)) (rowKey (s .able .found-row)) iv p) (tagBy (useOf (s .able .found-row)) (rowKey (s .able .found-row)) name iv a p) r
+    u : ℕ
+    u = useOf (s .able .found-row)
+
+    key : List ℕ
+    key = rowKey (s .able .found-row)
+
+    read : Laid u name (length p) iv (textBy u key iv p) (tagBy u key name iv a p) r
     read = as-laid t name iv a p r table-bytes s
 
 -- ---- the header, there and back
@@ -96,14 +101,6 @@ header-there u n name rest short few = read-back u n name rest short few
 pub header-back : HeaderBack
 header-back r bytes layout = front-back r bytes layout
 
--- ---- sealing in range
-
-pub seals-in-range : SealsInRange
-seals-in-range = range-sealed
-
-pub seals-only-in-range : SealsOnlyInRange
-seals-only-in-range = zero-told
-
 -- ---- other rows
 
 pub seal-other-rows : SealOtherRows
@@ -111,17 +108,6 @@ seal-other-rows t u name iv a p out ok-t ok-u e = rw (ok-t, ok-u, e)
 
 pub open-other-rows : OpenOtherRows
 open-other-rows t u r a out count ok-t ok-u e = rw (ok-t, ok-u, e)
-
--- ---- what an output held before
-
-pub seal-earlier : SealEarlier
-seal-earlier = seal-alike
-
-pub next-earlier : NextEarlier
-next-earlier = next-alike
-
-pub open-earlier : OpenEarlier
-open-earlier = open-alike
 
 -- ---- one answer
 

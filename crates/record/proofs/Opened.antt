@@ -23,7 +23,7 @@ use Rattle.record.specs.Open.{authenticBy, plaintextBy, openTests, openN
 use Rattle.record.specs.Demand3.{Opens}
 use Rattle.octets.proofs.Lent.{testAt, none-applies, over-injective}
 use Rattle.record.proofs.Parts.{length-ivIn, length-textIn, permits-textIn, bytes-ivIn}
-use Rattle.record.proofs.Numbers.{within-maxima, maxima-kept}
+use Rattle.record.proofs.Lengths.{within-maxima, maxima-kept}
 use Rattle.record.proofs.Sealed.{row-keyed}
 
 -- ---- the tests

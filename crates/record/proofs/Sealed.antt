@@ -27,7 +27,7 @@ use Rattle.record.specs.Record.{endAt, recordFront}
 use Rattle.record.specs.Seal.{callersMax, recordOf, sealedSize, sealTests, sealNumber, sealRow, sealAnswer}
 use Rattle.record.specs.Demand3.{Seals}
 use Rattle.record.specs.Laws.{SealInRange, SealsInRange, SealsOnlyInRange}
-use Rattle.record.proofs.Numbers.{key-size, within-maxima, maxima-kept}
+use Rattle.record.proofs.Lengths.{key-size, within-maxima, maxima-kept}
 use Rattle.record.proofs.Written.{length-front}
 use Rattle.record.proofs.Filled.{over-append}
 use Rattle.record.proofs.Laid.{laid, Laid, length-laid, laid-out}
@@ -102,15 +102,15 @@ with-room h room′ fits =
 
 -- ---- the answer 0
 
-pub range-sealed : SealsInRange
+pub seals-in-range : SealsInRange
 unfolding sealRow
-range-sealed t name iv a p out h =
+seals-in-range t name iv a p out h =
     ap (λ (o : Option (List ℕ)). sealRow (tableOk t) o name iv a p out) (h .found-is)
     ∙ answer-done _ _ out (rw (h .found-is) at (seal-passed (tableOk t) name iv a (length p) (length out) (dataRow t name) h))
 
-pub zero-told : SealsOnlyInRange
+pub seals-only-in-range : SealsOnlyInRange
 unfolding sealRow
-zero-told t name iv a p out e = in-range (tableOk t) name iv a (length p) (length out) (dataRow t name) e
+seals-only-in-range t name iv a p out e = in-range (tableOk t) name iv a (length p) (length out) (dataRow t name) e
 
 -- ---- the record
 
@@ -194,7 +194,7 @@ module _ (t name iv a p r : List ℕ) (table-bytes : Bytes t) where
       answered = h .makes out (length-out ∙ ap (λ (o : Option (List ℕ)). sealedSize o name (length p)) (h .has-row))
 
       inside : SealInRange (tableOk t) (dataRow t name) name iv a (length p) (length out)
-      inside = zero-told t name iv a p out (ap (λ (x : ℕ × List ℕ). x .0) answered)
+      inside = seals-only-in-range t name iv a p out (ap (λ (x : ℕ × List ℕ). x .0) answered)
 
       u : ℕ
       u = useOf (inside .found-row)
@@ -203,7 +203,7 @@ module _ (t name iv a p r : List ℕ) (table-bytes : Bytes t) where
       key = rowKey (inside .found-row)
 
       written : over (recordOf u key name iv a p) out ≡ r
-      written = ap (λ (x : ℕ × List ℕ). x .1) (sym (range-sealed t name iv a p out inside) ∙ answered)
+      written = ap (λ (x : ℕ × List ℕ). x .1) (sym (seals-in-range t name iv a p out inside) ∙ answered)
 
       iv-bytes : Bytes iv
       iv-bytes =
@@ -229,7 +229,7 @@ module _ (t name iv a p r : List ℕ) (table-bytes : Bytes t) where
     where
       makes : (out : List ℕ) → length out ≡ sealedSize (some (h .able .found-row)) name (length p) → sealAnswer t name iv a p out ≡ (0, r)
       makes out size =
-          range-sealed t name iv a p out (with-room (h .able) (length out) (omega arith))
+          seals-in-range t name iv a p out (with-room (h .able) (length out) (omega arith))
           ∙ ap (λ (l : List ℕ). (0, l))
           (over-whole _ out (length-recordOf (useOf (h .able .found-row)) (rowKey (h .able .found-row)) name iv a p (as-keyed h) (h .able .permitted) ∙ sym size) ∙ h .is)
 

@@ -25,11 +25,12 @@ use Rattle.modes.specs.Modes.{modeOf}
 use Rattle.record.specs.Record.{ivAt, ivIn, recordFront}
 use Rattle.record.specs.Seal.{recordOf, sealedSize, sealNumber, sealRow}
 use Rattle.record.specs.Next.{sealedSays, sealNextNumber, sealNextRow, sealNextAnswer}
-use Rattle.record.specs.Laws.{NextOtherRows, NextLive, NextSpent, NextSeals, NextAdvances, NextRefused, Lent, sealBefore, sealCall, written, RecordsDiffer, SealByUnique, SealNextUnique, SealNextTestsRise}
+use Rattle.record.specs.Laws.{NextOtherRows, NextLive, NextSpent, NextSeals, NextAdvances, NextRefused, Lent, sealBefore, sealCall, written, RecordsDiffer}
+use Rattle.record.specs.Laws.{SealByUnique, SealNextUnique, SealNextTestsRise}
 use Rattle.octets.proofs.Lent.{answer-done}
 use Rattle.record.proofs.Written.{length-front, read-back}
 use Rattle.record.proofs.Filled.{over-append}
-use Rattle.record.proofs.Sealed.{in-range, range-sealed}
+use Rattle.record.proofs.Sealed.{in-range, seals-in-range}
 use Rattle.record.proofs.WithSession.{next-zero, next-live, next-spent, next-done}
 
 -- ---- one call
@@ -137,7 +138,7 @@ iv-written s t name a p out e =
     let fits : size ≤ length out = omega (arith, size-is, h .room-fits) in
     let short : length F + length (ivOf s) ≤ size = omega (arith, size-is, length-front u name (length p), h .iv-size) in
     ap (λ (l : List ℕ). ivIn (take size l))
-    (ap (λ (x : ℕ × List ℕ). x .1) (sym (next-seals s t name a p out e) ∙ range-sealed t name (ivOf s) a p out h))
+    (ap (λ (x : ℕ × List ℕ). x .1) (sym (next-seals s t name a p out e) ∙ seals-in-range t name (ivOf s) a p out h))
     ∙ ap ivIn (begun F (ivOf s) _ out size short fits)
     ∙ iv-read u name (length p) (ivOf s) _ (h .name-fits) (h .text-fits) (h .iv-size)
 

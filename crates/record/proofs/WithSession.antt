@@ -19,7 +19,7 @@ use Rattle.session.proofs.Laws.{length-iv}
 use Rattle.record.specs.Seal.{recordBy, sealTests, sealNumber, readyBy}
 use Rattle.record.specs.Next.{sealNextNumber, sealNextRow}
 use Rattle.octets.proofs.Lent.{numbered}
-use Rattle.record.proofs.Ready.{ready-refused, ready-number}
+use Rattle.record.proofs.SealReady.{ready-refused, ready-number}
 
 -- ---- tests and then others: the first list's number, and where it gives 0 the second's
 

@@ -16,7 +16,7 @@ use Rattle.modes.specs.Calls.{textMax}
 use Rattle.modes.specs.Modes.{modeOf}
 use Rattle.record.specs.Record.{recordFormat, nameAt, ivAt, textAt, tagAt, endAt, modeIn, countIn, nameSize, layoutOk, frontIn, nameIn, header, recordFront}
 use Rattle.record.specs.Laws.{ReadBack}
-use Rattle.record.proofs.Numbers.{iv-small}
+use Rattle.record.proofs.Lengths.{iv-small}
 use Rattle.record.proofs.Parts.{Kept, layout-kept, length-nameIn}
 
 -- ---- there

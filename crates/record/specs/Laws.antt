@@ -1,4 +1,4 @@
--- What the records promise beside demand 3, as statements; proofs/Laws.antt and proofs/SessionLaws.antt prove them.
+-- What the records promise beside demand 3, as statements; proofs/Laws.antt, Sealed.antt, Earlier.antt and SessionLaws.antt prove them.
 -- Assumes nothing.
 use mathlib.Core.Path.{_≡_}
 use mathlib.Core.Logic.{_↔_}

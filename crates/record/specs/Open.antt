@@ -34,6 +34,10 @@ plaintextIn (some row) r = plaintextBy (rowKey row) r
 abbrev pub recordTagTests : List ℕ → List ℕ → List ℕ → Tests
 recordTagTests key r a = (9, not (authenticBy key r a)) ∷ []
 
+-- what the tag decides, with room for the plaintext
+abbrev pub tagAnswer : List ℕ → List ℕ → List ℕ → List ℕ → ℕ × List ℕ
+tagAnswer key r a out = answer (lowest (recordTagTests key r a)) (plaintextBy key r) out
+
 abbrev pub openTests : Bool → Option (List ℕ) → List ℕ → List ℕ → ℕ → Tests
 openTests ok row r a room =
     (1, not ok)

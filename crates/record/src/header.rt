@@ -17,6 +17,8 @@ use crate::sizes::ZERO_AT;
 use modes::iv_size;
 use modes::names_mode;
 use modes::tag_size;
+use octets::big_endian::bytes16;
+use octets::big_endian::bytes32;
 use octets::big_endian::read8;
 use octets::big_endian::read16;
 use octets::big_endian::read32;
@@ -149,31 +151,39 @@ fn header_of(u: u8, k: usize, n: usize) -> [u8; NAME_AT]
     let iv_at = NAME_AT + k;
     let text_at = iv_at + iv_long;
     let tag_at = text_at + n;
+    let format = bytes16(RECORD_FORMAT);
+    let count = bytes32(n);
+    let name_place = bytes16(NAME_AT);
+    let name_long = bytes16(k);
+    let iv_place = bytes16(iv_at);
+    let iv_bytes = bytes16(iv_long);
+    let text_place = bytes32(text_at);
+    let tag_place = bytes32(tag_at);
     [
-        0,
-        1,
+        format[0],
+        format[1],
         u,
         0,
-        (n / 16777216 % 256) as u8,
-        (n / 65536 % 256) as u8,
-        (n / 256 % 256) as u8,
-        (n % 256) as u8,
-        0,
-        24,
-        (k / 256 % 256) as u8,
-        (k % 256) as u8,
-        (iv_at / 256 % 256) as u8,
-        (iv_at % 256) as u8,
-        (iv_long / 256 % 256) as u8,
-        (iv_long % 256) as u8,
-        (text_at / 16777216 % 256) as u8,
-        (text_at / 65536 % 256) as u8,
-        (text_at / 256 % 256) as u8,
-        (text_at % 256) as u8,
-        (tag_at / 16777216 % 256) as u8,
-        (tag_at / 65536 % 256) as u8,
-        (tag_at / 256 % 256) as u8,
-        (tag_at % 256) as u8,
+        count[0],
+        count[1],
+        count[2],
+        count[3],
+        name_place[0],
+        name_place[1],
+        name_long[0],
+        name_long[1],
+        iv_place[0],
+        iv_place[1],
+        iv_bytes[0],
+        iv_bytes[1],
+        text_place[0],
+        text_place[1],
+        text_place[2],
+        text_place[3],
+        tag_place[0],
+        tag_place[1],
+        tag_place[2],
+        tag_place[3],
     ]
 }
 

@@ -1,5 +1,5 @@
 // Sealing with a session: one call takes the session's next IV and seals with it, and the session advances exactly when the answer is 0.
-use crate::sealing::Ready;
+use crate::sealing::SealReady;
 use crate::sealing::number_of;
 use crate::sealing::ready_to_seal;
 use crate::sealing::write;
@@ -40,7 +40,7 @@ pub fn seal_by(
     let iv = iv_of(issued);
     let session = issued.session;
     let r = ready_to_seal(table, name, &iv, aad, plain.len(), out.len());
-    let Ready::At(at) = r else {
+    let SealReady::At(at) = r else {
         return Sealed {
             number: number_of(r),
             session: s,

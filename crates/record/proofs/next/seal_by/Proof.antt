@@ -7,7 +7,7 @@ use lib.ListN.{length}
 use borrow.Author.Needs.{needs}
 use Rattle.session.specs.Calls.{advanceAnswer}
 use Rattle.record.specs.Seal.{readyNumber, readyRow, readyAnswer}
-use Rattle.record.specs.declared.sealing.Ready.{Ready}
+use Rattle.record.specs.declared.sealing.SealReady.{SealReady}
 use Rattle.record.proofs.WithSession.{by-refused, by-spent, by-done}
 use Rattle.record.proofs.next.seal_by.Statement.{statement}
 use Rattle.record.proofs.next.seal_by.Tie as tie
@@ -30,10 +30,10 @@ gave c =
     let r = advanced c .advance .result in
     advanced c .advance .ensures ∙ ap (λ (v : List ℕ). (r .number, v, r .session)) (sym (c .before .before .before .iv-of .ensures))
 
-is : (c : tie.After-ready-to-seal) (r : Ready) → c .ready-to-seal .result ≡ r →
+is : (c : tie.After-ready-to-seal) (r : SealReady) → c .ready-to-seal .result ≡ r →
     let a = start c .args in
     readyAnswer (a .table .now) (a .name .now) (iv c) (a .aad .now) (length (a .plain .now)) (length (a .out .now)) ≡ (readyNumber r, readyRow (a .table .now) r)
-is c r e = c .ready-to-seal .ensures ∙ ap (λ (x : Ready). (readyNumber x, readyRow (start c .args .table .now) x)) e
+is c r e = c .ready-to-seal .ensures ∙ ap (λ (x : SealReady). (readyNumber x, readyRow (start c .args .table .now) x)) e
 
 returns : tie.Need-returns
 returns c =

@@ -13,7 +13,7 @@ use Rattle.keytable.specs.Table.{tableOk, dataRow, rowAt}
 use Rattle.keytable.proofs.Laws.{rowFor-good}
 use Rattle.record.specs.Seal.{recordOf, recordBy}
 use Rattle.record.specs.Laws.{SealInRange}
-use Rattle.record.proofs.Ready.{ready-row, ready-able, ready-same}
+use Rattle.record.proofs.SealReady.{ready-row, ready-able, ready-same}
 use Rattle.record.proofs.sealing.write.Statement.{statement}
 use Rattle.record.proofs.sealing.write.Tie as tie
 
