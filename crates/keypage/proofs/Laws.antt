@@ -5,9 +5,10 @@ use mathlib.Core.Logic.{_↔_}
 use mathlib.Core.List.{List}
 use mathlib.Core.Option.{some}
 use Prim.Native.Nat.{ℕ, _+_}
+use borrow.Author.Tests.{eq-eqb}
 use lib.ListN.{length}
 use Rattle.octets.specs.Bytes.{Bytes}
-use Rattle.octets.specs.Lent.{over, answer}
+use Rattle.octets.specs.Lent.{over}
 use Rattle.octets.proofs.Bytes.{bytes-take, bytes-drop}
 use Rattle.octets.proofs.Unique.{unique}
 use Rattle.keytable.specs.Row.{rowKeySize, useOf, rowKey}
@@ -19,12 +20,14 @@ use Rattle.keywrap.proofs.Laws.{unwraps-exactly, wrapped-length}
 use Rattle.keypage.specs.Page.{keyPartAt, algorithmIn, formatIn, keyLength, keyPart, fieldsOf}
 use Rattle.keypage.specs.KeyPart.{plainFormat, referenceFormat, wrappedFormat, kekUse, identifierAt, identifierSize, identifierOf, wrappedOf}
 use Rattle.keypage.specs.Read.{pageReadAnswer}
-use Rattle.keypage.specs.Load.{keyIn, keyLoaded, loadAnswer}
+use Rattle.keypage.specs.Load.{keyIn, keyLoaded, partAnswer, loadAnswer}
 use Rattle.keypage.specs.Laws.{Readable, ReadsExactly, Loads, LoadsPlain, LoadsReference, LoadsWrapped, NoRowSix}
 use Rattle.keypage.specs.Laws.{LoadOtherRows, PageReadTestsRise, PartTestsRise, LoadTestsRise, PageReadUnique, LoadUnique}
-use Rattle.keypage.proofs.Permitted.{read-passed, passed-read, passed-readable, readable-passed, read-done, read-zero, read-part}
-use Rattle.keypage.proofs.Laid.{known, known-needs, plain-size}
-use Rattle.keypage.proofs.Loaded.{partNumber, part-row, part-none, part-use, reference-passed, wrapped-size, wrapped-answer, load-six, load-told, load-written, load-key, key-loads}
+use Rattle.keypage.proofs.ReadNumbers.{read-passed, page-fields}
+use Rattle.keypage.proofs.Page.{passed-read, passed-readable, readable-passed, answer-told, read-part}
+use Rattle.keypage.proofs.KeyPart.{known, known-needs, plain-size}
+use Rattle.keypage.proofs.LoadNumbers.{wrapped-rest}
+use Rattle.keypage.proofs.Load.{partNumber, part-row, part-none, part-use, reference-passed, wrapped-size, load-six, load-told, load-written, load-key, key-loads}
 use Rattle.keytable.proofs.RowFound.{row-key-bytes}
 use Rattle.octets.proofs.Lent.{answer-done, answer-zero}
 
@@ -35,11 +38,11 @@ reads-exactly p fields after = (to, from)
   where
     to : pageReadAnswer p fields ≡ (0, after) → Readable p × (after ≡ fieldsOf p)
     to e =
-        let zero = read-zero p fields after e in
-        (passed-readable p (read-passed p zero), ap (λ (x : ℕ × List ℕ). x .1) (sym e ∙ read-done p fields zero))
+        let zero = answer-told p fields after e in
+        (passed-readable p (read-passed p zero), ap (λ (x : ℕ × List ℕ). x .1) (sym e ∙ page-fields p fields 0 (sym zero) refl))
 
     from : Readable p × (after ≡ fieldsOf p) → pageReadAnswer p fields ≡ (0, after)
-    from h = read-done p fields (passed-read p (readable-passed p (h .0))) ∙ ap (λ (l : List ℕ). (0, l)) (sym (h .1))
+    from h = page-fields p fields 0 (sym (passed-read p (readable-passed p (h .0)))) refl ∙ ap (λ (l : List ℕ). (0, l)) (sym (h .1))
 
 -- ---- loading
 
@@ -95,10 +98,10 @@ loads-wrapped t p out fields k given bytes-t bytes-p is = (to, from)
     Row = (row : List ℕ) × (rowFor t name ≡ some row) × (useOf row ≡ kekUse) × WrapsTo (rowKey row) k w
 
     as-unwrapped : (row : List ℕ) → rowFor t name ≡ some row → useOf row ≡ kekUse
-        → answer (partNumber (some row) (algorithmIn p) wrappedFormat (keyPart p)) (keyLoaded (some row) wrappedFormat (keyPart p)) out
-        ≡ unwrapAnswer (rowKey row) w out
+        → partAnswer (some row) (algorithmIn p) wrappedFormat (keyPart p) out ≡ unwrapAnswer (rowKey row) w out
     as-unwrapped row has use-is =
-        wrapped-answer row (algorithmIn p) (keyPart p) out use-is (rowFor-good t name row (given .table-accepted) has .key-size) (given .key-fits)
+        wrapped-rest (some row) (algorithmIn p) (keyPart p) out row refl (eq-eqb (useOf row) kekUse use-is)
+        (rowFor-good t name row (given .table-accepted) has .key-size) (given .key-fits)
 
     to : Loads t p out fields k → Row
     to h =

@@ -10,7 +10,7 @@ use lib.ListN.{length, getD}
 use Rattle.octets.specs.BigEndian.{numberAt}
 use Rattle.octets.specs.Lent.{when}
 use Rattle.octets.specs.Tests.{every, zeros, partOf}
-use Rattle.octets.proofs.Lent.{none-applies}
+use Rattle.octets.proofs.Lent.{testAt, none-applies}
 use Rattle.octets.proofs.Tests.{or-left, every-at}
 use Rattle.keypage.specs.Page.{pageCode, keyPartAt, formatIn, keyLength, keyPart, listIn, pageListOk, pageListCount, pageTests, pageOk, fieldsOf}
 use Rattle.keypage.specs.KeyPart.{partBroken}
@@ -26,44 +26,52 @@ page-tested p code size first key reserved listed e1 e2 e3 e4 e5 e6 = rw (e1, e2
 -- ---- each number by the tests that led there
 
 module _ (p : List ℕ) where
-  pub read-two : broken p ≡ true → pageReadNumber p ≡ 2
+  pub page-two : broken p ≡ true → pageReadNumber p ≡ 2
   unfolding pageReadNumber
-  read-two e = rw e
+  page-two e = rw e
 
-  pub read-three : broken p ≡ false → refused p ≡ true → pageReadNumber p ≡ 3
+  pub page-three : broken p ≡ false → refused p ≡ true → pageReadNumber p ≡ 3
   unfolding pageReadNumber
-  read-three e f = rw (e, f)
+  page-three e f = rw (e, f)
 
-  pub read-four : broken p ≡ false → refused p ≡ false → long p ≡ true → pageReadNumber p ≡ 4
+  pub page-four : broken p ≡ false → refused p ≡ false → long p ≡ true → pageReadNumber p ≡ 4
   unfolding pageReadNumber
-  read-four e f g = rw (e, f, g)
+  page-four e f g = rw (e, f, g)
 
-  pub read-zero : broken p ≡ false → refused p ≡ false → long p ≡ false → pageReadNumber p ≡ 0
+  pub page-zero : broken p ≡ false → refused p ≡ false → long p ≡ false → pageReadNumber p ≡ 0
   unfolding pageReadNumber
-  read-zero e f g = rw (e, f, g)
+  page-zero e f g = rw (e, f, g)
 
 -- ---- the number 0: no test applies
 
-pub accepted : (p : List ℕ) → pageReadNumber p ≡ 0 → (broken p ≡ false) × (refused p ≡ false) × (long p ≡ false)
+pub record ReadPassed (p : List ℕ) : Type 0 where
+  pub whole : broken p ≡ false
+  pub permitted : refused p ≡ false
+  pub short : long p ≡ false
+
+pub read-passed : (p : List ℕ) → pageReadNumber p ≡ 0 → ReadPassed p
 unfolding pageReadNumber
-accepted p e = (none-applies (pageReadTests p) 0 refl e, none-applies (pageReadTests p) 1 refl e, none-applies (pageReadTests p) 2 refl e)
+read-passed p e = record { whole = no 0; permitted = no 1; short = no 2 }
+  where
+    no : (i : ℕ) → testAt (pageReadTests p) i ≡ false
+    no i = none-applies (pageReadTests p) i refl e
 
 pub list-good : (p : List ℕ) → pageReadNumber p ≡ 0 → pageListOk (listIn p) ≡ true
 unfolding pageOk
 list-good p e =
-    every-at (pageTests p) 5 (not-false (pageOk p) (or-left (not (pageOk p)) (partBroken (formatIn p) (keyPart p)) (accepted p e .0)))
+    every-at (pageTests p) 5 (not-false (pageOk p) (or-left (not (pageOk p)) (partBroken (formatIn p) (keyPart p)) (read-passed p e .whole)))
 
 -- the count that comes of testing such a page's list
-pub counted : (p l : List ℕ) (n : ℕ) → pageListOk (listIn p) ≡ true → l ≡ listIn p → n ≡ when (pageListOk l) (pageListCount l) 0 → n ≡ pageListCount (listIn p)
-counted p l n ok is e = e ∙ rw (is, ok)
+pub list-counted : (p l : List ℕ) (n : ℕ) → pageListOk (listIn p) ≡ true → l ≡ listIn p → n ≡ when (pageListOk l) (pageListCount l) 0 → n ≡ pageListCount (listIn p)
+list-counted p l n ok is e = e ∙ rw (is, ok)
 
 -- ---- the answer, by the number that the code has
 
 module _ (p fields : List ℕ) (n : ℕ) (is : n ≡ pageReadNumber p) where
-  pub answer-refused : (n ≡ 0 → ⊥) → pageReadAnswer p fields ≡ (n, fields)
+  pub page-refused : (n ≡ 0 → ⊥) → pageReadAnswer p fields ≡ (n, fields)
   unfolding pageReadAnswer
-  answer-refused refused = rw (← is, ne-eqb n 0 refused)
+  page-refused refused = rw (← is, ne-eqb n 0 refused)
 
-  pub answer-fields : n ≡ 0 → pageReadAnswer p fields ≡ (0, fieldsOf p)
+  pub page-fields : n ≡ 0 → pageReadAnswer p fields ≡ (0, fieldsOf p)
   unfolding pageReadAnswer
-  answer-fields done = rw (← is, done)
+  page-fields done = rw (← is, done)

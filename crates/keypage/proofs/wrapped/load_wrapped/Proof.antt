@@ -72,7 +72,8 @@ returns-3 c =
     let at = at-use .before .before in
     let from = start (at .before .before .before) in
     let a = from .args in
-    wrapped-rest _ (a .algorithm) (a .s .now) (a .out .now) _ (found at .0) (ap (λ (u : ℕ). eqb u kekUse) (sym (at-use .use-at .ensures)) ∙ eq-eqb _ _ (same-use .if1 .left)) (found at .1) (from .pre .1)
+    wrapped-rest _ (a .algorithm) (a .s .now) (a .out .now) _ (found at .0)
+    (ap (λ (u : ℕ). eqb u kekUse) (sym (at-use .use-at .ensures)) ∙ eq-eqb _ _ (same-use .if1 .left)) (found at .1) (from .pre .1)
     ∙ ap₂ (λ (k w : List ℕ). unwrapAnswer k w (a .out .now)) (sym (its-bytes (at-key .key-at .ensures))) (sym (rest-is at-rest))
     ∙ at-unwrap .unwrap .ensures
 

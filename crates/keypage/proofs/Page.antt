@@ -12,12 +12,12 @@ use Rattle.octets.proofs.Tests.{or-left, or-right, every-at}
 use Rattle.descriptors.proofs.Answers.{list-accepted, number-ok}
 use Rattle.descriptors.proofs.Laws.{accepts-exactly}
 use Rattle.keypage.specs.Page.{pageCode, pageMax, keyPartAt, scopeIn, reservedIn, encryptionIn, decryptionIn, algorithmIn, formatIn, keyLength}
-use Rattle.keypage.specs.Page.{keyPart, listIn, pageStrict, pageListOk, pageListCount, pageTests, pageOk, permittedTests, fieldsOk, fieldsOf}
+use Rattle.keypage.specs.Page.{keyPart, listIn, pageStrict, pageListOk, pageListCount, pageTests, pageOk, permittedTests, fieldsOk}
 use Rattle.keypage.specs.KeyPart.{partBroken, partRefused, partLong}
-use Rattle.keypage.specs.Read.{broken, refused, long, pageReadNumber, pageReadAnswer}
+use Rattle.keypage.specs.Read.{pageReadNumber, pageReadAnswer}
 use Rattle.keypage.specs.Laws.{Laid, Readable}
-use Rattle.keypage.proofs.ReadNumbers.{accepted}
-use Rattle.keypage.proofs.Laid.{PartPassed, part-laid, laid-part}
+use Rattle.keypage.proofs.ReadNumbers.{ReadPassed, read-passed}
+use Rattle.keypage.proofs.KeyPart.{PartPassed, part-laid, laid-part}
 
 -- ---- the page's own layout and fields
 
@@ -71,16 +71,7 @@ module _ (p : List ℕ) where
 
 -- ---- the numbers of reading
 
--- no test of reading applies
-pub record ReadPassed (p : List ℕ) : Type 0 where
-  pub whole : broken p ≡ false
-  pub permitted : refused p ≡ false
-  pub short : long p ≡ false
-
 module _ (p : List ℕ) where
-  pub read-passed : pageReadNumber p ≡ 0 → ReadPassed p
-  read-passed e = let (whole, permitted, short) = accepted p e in record { whole = whole; permitted = permitted; short = short }
-
   pub passed-read : ReadPassed p → pageReadNumber p ≡ 0
   unfolding pageReadNumber
   passed-read h = rw (h .whole, h .permitted, h .short)
@@ -95,7 +86,7 @@ module _ (p : List ℕ) where
       }
 
   pub read-part : pageReadNumber p ≡ 0 → PartPassed (formatIn p) (keyPart p)
-  read-part e = passed-part (read-passed e)
+  read-part e = passed-part (read-passed p e)
 
   pub passed-readable : ReadPassed p → Readable p
   passed-readable h =
@@ -119,10 +110,6 @@ module _ (p : List ℕ) where
 
   -- ---- the answer
 
-  pub read-done : (fields : List ℕ) → pageReadNumber p ≡ 0 → pageReadAnswer p fields ≡ (0, fieldsOf p)
+  pub answer-told : (fields after : List ℕ) → pageReadAnswer p fields ≡ (0, after) → pageReadNumber p ≡ 0
   unfolding pageReadAnswer
-  read-done fields e = rw e
-
-  pub read-zero : (fields after : List ℕ) → pageReadAnswer p fields ≡ (0, after) → pageReadNumber p ≡ 0
-  unfolding pageReadAnswer
-  read-zero fields after e = ap (λ (x : ℕ × List ℕ). x .0) e
+  answer-told fields after e = ap (λ (x : ℕ × List ℕ). x .0) e
