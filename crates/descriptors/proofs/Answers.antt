@@ -10,19 +10,19 @@ use lib.Dec.{eqb}
 use lib.ListN.{length, getD, drop}
 use Rattle.octets.specs.Lent.{lowest, kept}
 use Rattle.octets.specs.Tests.{every}
-use Rattle.descriptors.specs.Tested.{Answer, testedSays, listOk, listNumber, listAnswer, listCheck, countOf}
+use Rattle.descriptors.specs.Tested.{testedSays, listOk, listNumber, listAnswer, listCheck, countOf}
 use Rattle.descriptors.specs.Parse.{split}
-use Rattle.descriptors.specs.Steps.{splitStep, stepAnswer, opened, begunOf, advanceOf, placesAfter, listStep}
+use Rattle.descriptors.specs.Steps.{splitStep, stepAnswer, cursorAtStart, begunOf, advanceOf, placesAfter, listStep}
 use Rattle.descriptors.specs.Labels.{labelMax, listOf, labelShape, labelOk, labelNumber, labelAnswer, labelCheck}
 use Rattle.descriptors.specs.declared.cursor.Advance.{Advance}
 use Rattle.descriptors.specs.declared.list.Tested.{Tested}
 use Rattle.descriptors.specs.declared.list.Tested.the-variants.{Counted, Refused}
 
 -- 0 and one value that comes with it
-zero-counted : (m k n : ℕ) → _≡_ {A = Answer} (m, kept m (k ∷ []) []) (0, n ∷ []) → (m ≡ 0) × (n ≡ k)
+zero-counted : (m k n : ℕ) → _≡_ {A = ℕ × List ℕ} (m, kept m (k ∷ []) []) (0, n ∷ []) → (m ≡ 0) × (n ≡ k)
 zero-counted m k n e =
-    let none : m ≡ 0 = ap (λ (a : Answer). a .0) e in
-    (none, ap (λ (a : Answer). getD (a .1) 0 0) (sym e ∙ ap (λ (x : ℕ). (x, kept x (k ∷ []) [])) none))
+    let none : m ≡ 0 = ap (λ (a : ℕ × List ℕ). a .0) e in
+    (none, ap (λ (a : ℕ × List ℕ). getD (a .1) 0 0) (sym e ∙ ap (λ (x : ℕ). (x, kept x (k ∷ []) [])) none))
 
 module _ (label strict : Bool) (s : List ℕ) where
   pub list-refused : listOk label strict s ≡ false → listAnswer label strict s ≡ (2, [])
@@ -47,17 +47,17 @@ module _ (label strict : Bool) (s : List ℕ) where
     counted-tells n is = ok-counted n (sym e ∙ ap testedSays is)
 
     pub refused-tells : r ≡ Refused → listOk label strict s ≡ false
-    refused-tells is = go (listOk label strict s) (ap (λ (a : Answer). a .0) (sym e ∙ ap testedSays is))
+    refused-tells is = go (listOk label strict s) (ap (λ (a : ℕ × List ℕ). a .0) (sym e ∙ ap testedSays is))
       where
         go : (ok : Bool) → lowest ((2, not ok) ∷ []) ≡ 2 → ok ≡ false
         go true h = absurd (omega arith)
         go false h = refl
 
   -- so opening, and the call with a lent count
-  pub begun-counted : (n : ℕ) → listOk label strict s ≡ true → n ≡ countOf label s → record { number = 0; count = n; place = opened label strict } ≡ begunOf s label strict
+  pub begun-counted : (n : ℕ) → listOk label strict s ≡ true → n ≡ countOf label s → record { number = 0; count = n; place = cursorAtStart label strict } ≡ begunOf s label strict
   begun-counted n ok is = rw (ok, is)
 
-  pub begun-refused : listOk label strict s ≡ false → record { number = 2; count = 0; place = opened label strict } ≡ begunOf s label strict
+  pub begun-refused : listOk label strict s ≡ false → record { number = 2; count = 0; place = cursorAtStart label strict } ≡ begunOf s label strict
   begun-refused ok = rw ok
 
   pub check-counted : (before n : ℕ) → listOk label strict s ≡ true → n ≡ countOf label s → listCheck label strict s before ≡ (0, n)
@@ -115,4 +115,4 @@ module _ (s : List ℕ) where
 
     pub lent-refused : (number : ℕ) → eqb number 0 ≡ false → labelAnswer s ≡ (number, []) → labelCheck s before ≡ (number, before)
     lent-refused number some e =
-        ap (λ (m : ℕ). (m, kept m (countOf true (listOf s)) before)) (ap (λ (a : Answer). a .0) e) ∙ rw some
+        ap (λ (m : ℕ). (m, kept m (countOf true (listOf s)) before)) (ap (λ (a : ℕ × List ℕ). a .0) e) ∙ rw some

@@ -15,7 +15,7 @@ use Rattle.octets.proofs.Tests.{and-left, and-right, every-at}
 use Rattle.octets.proofs.Values.{cons-equal}
 use Rattle.descriptors.specs.Descriptor.{typeOf, isReserved, isRefused, isDescriptor, sizeOf, sizeSaid}
 use Rattle.descriptors.specs.Parse.{Split, split, parse}
-use Rattle.descriptors.specs.Tested.{Answer, admits, risesFrom, splitTests, splitOk, listOk, unreserved, listAnswer}
+use Rattle.descriptors.specs.Tested.{admits, risesFrom, splitTests, splitOk, listOk, unreserved, listAnswer}
 use Rattle.descriptors.specs.Steps.{firstShown, splitStep, stepAnswer, advanceOf}
 use Rattle.descriptors.specs.Labels.{labelMax, listOf, labelShape, labelOk, labelNumber, labelAnswer, present}
 use Rattle.descriptors.specs.declared.cursor.Cursor.{Cursor}
@@ -92,7 +92,7 @@ unfolding firstShown
 quiet label strict at [] left f = refl
 quiet label strict at (d ∷ ds) left f = go (isRefused label strict (typeOf d)) (isReserved label (typeOf d)) (quiet label strict (at + length d) ds left) f
   where
-    rest : Answer
+    rest : ℕ × List ℕ
     rest = firstShown label strict (at + length d) ds left
 
     go : (b r : Bool) → ((rest .0 ≡ 0 → ⊥) → rest .1 ≡ [])
@@ -105,7 +105,7 @@ step-quiet : (s : List ℕ) (c : Cursor) → (advanceOf s c .number ≡ 0 → �
 unfolding splitStep
 step-quiet s c f = go (ltb (length s) (c .at)) f
   where
-    found : Answer
+    found : ℕ × List ℕ
     found = splitStep (c .label) (c .strict) (c .at) (split (drop (c .at) s))
 
     go : (b : Bool) → (when b (2, []) found .0 ≡ 0 → ⊥) → when b (2, []) found .1 ≡ []

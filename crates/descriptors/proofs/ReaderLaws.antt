@@ -12,9 +12,9 @@ use Rattle.octets.specs.Places.{Placed, placed, partIn}
 use Rattle.octets.proofs.Unique.{unique}
 use Rattle.descriptors.specs.Parse.{Split}
 use Rattle.descriptors.specs.Tested.{listOk, unreserved, countOf}
-use Rattle.descriptors.specs.Steps.{opened, advanceOf, partShown, after}
+use Rattle.descriptors.specs.Steps.{cursorAtStart, advanceOf, partShown, cursorAfter}
 use Rattle.descriptors.specs.Readers.{standing, openedOf, shownSays, shownOf, nextOf}
-use Rattle.descriptors.specs.ReaderLaws.{Run, ReaderCounts, ReaderShows, ReaderThenNothing, ReaderRefusedStays, OpenUnique, NextUnique, PartAtUnique, ShownFromUnique}
+use Rattle.descriptors.specs.ReaderLaws.{ReaderRun, ReaderCounts, ReaderShows, ReaderThenNothing, ReaderRefusedStays, ReaderOpenUnique, ReaderNextUnique, PartAtUnique, ShownFromUnique}
 use Rattle.descriptors.specs.declared.cursor.Cursor.{Cursor}
 use Rattle.descriptors.specs.declared.cursor.Advance.{Advance}
 use Rattle.descriptors.specs.declared.cursor.Begun.{Begun}
@@ -29,26 +29,26 @@ abbrev Next : Type 0
 Next = (ℕ × Placed) × Reader
 
 -- one step more is one step after
-after-last : (i : ℕ) (s : List ℕ) (c : Cursor) → after (suc i) s c ≡ advanceOf s (after i s c) .next
+after-last : (i : ℕ) (s : List ℕ) (c : Cursor) → cursorAfter (suc i) s c ≡ advanceOf s (cursorAfter i s c) .next
 after-last zero s c = refl
 after-last (suc i) s c = after-last i s (advanceOf s c .next)
 
-module _ (l : RefT (List ℕ)) (label strict : Bool) (run : Run l label strict) where
+module _ (l : RefT (List ℕ)) (label strict : Bool) (run : ReaderRun l label strict) where
   abbrev on : Cursor → Reader
   on c = standing l c
 
   -- the reader held after i steps stands on the list that was lent, where the cursor stands after i steps
-  held-at : (i : ℕ) → run .held i ≡ on (after i (now l) (opened label strict))
+  held-at : (i : ℕ) → run .held i ≡ on (cursorAfter i (now l) (cursorAtStart label strict))
   held-at zero = run .first ∙ ap (λ (o : Opened). o .reader) (run .opens)
   held-at (suc i) =
       sym (ap (λ (n : Next). n .1) (run .steps i))
       ∙ ap (λ (d : Reader). nextOf d .1) (held-at i)
-      ∙ ap on (sym (after-last i (now l) (opened label strict)))
+      ∙ ap on (sym (after-last i (now l) (cursorAtStart label strict)))
 
-  shown-at : (i : ℕ) → shownSays (run .shown i) ≡ shownOf (on (after i (now l) (opened label strict)))
+  shown-at : (i : ℕ) → shownSays (run .shown i) ≡ shownOf (on (cursorAfter i (now l) (cursorAtStart label strict)))
   shown-at i = sym (ap (λ (n : Next). n .0) (run .steps i)) ∙ ap shownOf (held-at i)
 
-  bytes-at : (i : ℕ) → now (run .shown i .part) ≡ partShown (now l) (advanceOf (now l) (after i (now l) (opened label strict)))
+  bytes-at : (i : ℕ) → now (run .shown i .part) ≡ partShown (now l) (advanceOf (now l) (cursorAfter i (now l) (cursorAtStart label strict)))
   bytes-at i = ap (λ (n : ℕ × Placed). n .1 .bytes) (shown-at i)
 
   accepted : run .opened .number ≡ 0 → listOk label strict (now l) ≡ true
@@ -64,7 +64,7 @@ module _ (l : RefT (List ℕ)) (label strict : Bool) (run : Run l label strict) 
     pub reader-shows : ReaderShows l label strict run ds
     reader-shows i e p h =
         let (number, part) = shows-in-order label strict (now l) ds i (accepted e) p h in
-        let a = advanceOf (now l) (after i (now l) (opened label strict)) in (
+        let a = advanceOf (now l) (cursorAfter i (now l) (cursorAtStart label strict)) in (
           shown-at i ∙ ap (λ (n : ℕ). (n, partIn (placed l) (a .from) (a .end - a .from))) number,
           bytes-at i ∙ part,
         )
@@ -73,8 +73,8 @@ module _ (l : RefT (List ℕ)) (label strict : Bool) (run : Run l label strict) 
     reader-then-nothing i e p h =
         let still = then-nothing label strict (now l) ds i (accepted e) p h in (
           ap (λ (n : ℕ × Placed). n .0) (shown-at i) ∙ ap (λ (a : Advance). a .number) still,
-          bytes-at i ∙ ap (partShown (now l)) still ∙ nothing (now l) (after i (now l) (opened label strict) .at),
-          held-at (suc i) ∙ ap on (after-last i (now l) (opened label strict) ∙ ap (λ (a : Advance). a .next) still) ∙ sym (held-at i),
+          bytes-at i ∙ ap (partShown (now l)) still ∙ nothing (now l) (cursorAfter i (now l) (cursorAtStart label strict) .at),
+          held-at (suc i) ∙ ap on (after-last i (now l) (cursorAtStart label strict) ∙ ap (λ (a : Advance). a .next) still) ∙ sym (held-at i),
         )
       where
         nothing : (s : List ℕ) (at : ℕ) → partOf s at (at - at) ≡ []
@@ -83,11 +83,11 @@ module _ (l : RefT (List ℕ)) (label strict : Bool) (run : Run l label strict) 
 pub reader-refused-stays : ReaderRefusedStays
 reader-refused-stays d f = (refused-quiet (now (d .list)) (d .place) f, ap (standing (d .list)) (refused-stays (now (d .list)) (d .place) f))
 
-pub open-unique : OpenUnique
-open-unique l label strict = unique (openedOf l label strict)
+pub reader-open-unique : ReaderOpenUnique
+reader-open-unique l label strict = unique (openedOf l label strict)
 
-pub next-unique : NextUnique
-next-unique d = unique (nextOf d)
+pub reader-next-unique : ReaderNextUnique
+reader-next-unique d = unique (nextOf d)
 
 pub part-at-unique : PartAtUnique
 part-at-unique s from end = unique (partIn s from (end - from))

@@ -13,7 +13,7 @@ use Rattle.octets.specs.BigEndian.{numberAt}
 use Rattle.octets.specs.Lent.{when}
 use Rattle.octets.specs.Tests.{every}
 use Rattle.octets.proofs.Tests.{every-at}
-use Rattle.descriptors.specs.Descriptor.{headSize, sizeSaid, isDescriptor, sizeOf}
+use Rattle.descriptors.specs.Descriptor.{descriptorHeadSize, sizeSaid, isDescriptor, sizeOf}
 
 -- a list begins with a whole descriptor, or with none
 pub size-whole : (s : List ℕ) → eqb (getD s 1 0) 0 ≡ true → leb (sizeSaid s) (length s) ≡ true → sizeOf s ≡ sizeSaid s
@@ -21,13 +21,13 @@ unfolding sizeOf
 size-whole s z fits = rw (z, fits)
 
 -- the size as it is read: z the second byte, n the size that is said, and b whether both tests hold
-pub size-read : (s : List ℕ) (z n : ℕ) (b : Bool) → z ≡ getD s 1 0 → n ≡ numberAt 2 s 2 → (eqb z 0 && leb (headSize + n) (length s)) ≡ b → when b (headSize + n) 0 ≡ sizeOf s
+pub size-read : (s : List ℕ) (z n : ℕ) (b : Bool) → z ≡ getD s 1 0 → n ≡ numberAt 2 s 2 → (eqb z 0 && leb (descriptorHeadSize + n) (length s)) ≡ b → when b (descriptorHeadSize + n) 0 ≡ sizeOf s
 unfolding sizeOf sizeSaid
 size-read s z n b ez en e = rw (← ez, ← en, e)
 
 -- ---- the bounds
 
-pub said-least : (s : List ℕ) → headSize ≤ sizeSaid s
+pub said-least : (s : List ℕ) → descriptorHeadSize ≤ sizeSaid s
 unfolding sizeSaid
 said-least s = omega arith
 
@@ -41,11 +41,11 @@ size-parts s f = go (eqb (getD s 1 0) 0) (leb (sizeSaid s) (length s)) refl refl
     go true false z fits f = absurd (f refl)
     go false b z fits f = absurd (f refl)
 
-pub size-bounds : (s : List ℕ) → (sizeOf s ≡ 0 → ⊥) → (headSize ≤ sizeOf s) × (sizeOf s ≤ length s)
+pub size-bounds : (s : List ℕ) → (sizeOf s ≡ 0 → ⊥) → (descriptorHeadSize ≤ sizeOf s) × (sizeOf s ≤ length s)
 size-bounds s f =
     let (is, (zero-byte, fits)) = size-parts s f in (omega (arith, said-least s), omega arith)
 
-pub size-nothing : (s : List ℕ) → length s < headSize → sizeOf s ≡ 0
+pub size-nothing : (s : List ℕ) → length s < descriptorHeadSize → sizeOf s ≡ 0
 unfolding sizeOf
 size-nothing s h = rw (lt-leb (sizeSaid s) (length s) (omega (arith, said-least s))) (go (eqb (getD s 1 0) 0))
   where
@@ -68,7 +68,7 @@ descriptor-parts d e =
 pub descriptor-size : (d t : List ℕ) → isDescriptor d ≡ true → sizeOf (d ++ t) ≡ length d
 descriptor-size d t e =
     let (zero-byte, long) = descriptor-parts d e in
-    let four : headSize ≤ length d = omega (arith, said-least d) in
+    let four : descriptorHeadSize ≤ length d = omega (arith, said-least d) in
     let said : sizeSaid (d ++ t) ≡ sizeSaid d = said-same (d ++ t) d (List·getD-append d t 0 2 (omega arith)) (List·getD-append d t 0 3 (omega arith)) in
     let fits : sizeSaid (d ++ t) ≤ length (d ++ t) = omega (arith, length-append d t) in
     size-whole (d ++ t) (eq-eqb _ _ (List·getD-append d t 0 1 (omega arith) ∙ zero-byte)) (le-leb _ _ fits) ∙ said ∙ sym long

@@ -13,7 +13,7 @@ use lib.Dec.{eqb}
 use Rattle.octets.specs.Lent.{when}
 use Rattle.octets.specs.Tests.{all, partOf}
 use Rattle.octets.proofs.Tests.{and-left, and-right}
-use Rattle.descriptors.specs.Descriptor.{headSize, isDescriptor, sizeOf}
+use Rattle.descriptors.specs.Descriptor.{descriptorHeadSize, isDescriptor, sizeOf}
 use Rattle.descriptors.specs.Parse.{behind, splitIn, split, parse}
 use Rattle.descriptors.proofs.Sizes.{said-least, size-bounds, size-nothing, descriptor-parts, descriptor-size, size-descriptor}
 
@@ -69,7 +69,7 @@ module _ (s : List ℕ) (at : ℕ) where
   unfolding split
   place-end h = rw (drop-of-length-le s h)
 
-  pub size-in : (n : ℕ) → n ≡ sizeOf (drop at s) → (n ≡ 0 → ⊥) → (headSize ≤ n) × (at + n ≤ length s)
+  pub size-in : (n : ℕ) → n ≡ sizeOf (drop at s) → (n ≡ 0 → ⊥) → (descriptorHeadSize ≤ n) × (at + n ≤ length s)
   size-in n e f =
       let (four, inside) = size-bounds (drop at s) (λ z. f (e ∙ z)) in (omega arith, omega (arith, length-drop at s))
 

@@ -12,8 +12,8 @@ use Rattle.octets.specs.Lent.{when}
 use Rattle.octets.specs.Tests.{all, partOf}
 use Rattle.octets.proofs.Tests.{and-left, and-right}
 use Rattle.descriptors.specs.Descriptor.{typeOf, isReserved, isRefused, isDescriptor}
-use Rattle.descriptors.specs.Tested.{Answer, admits, unreserved}
-use Rattle.descriptors.specs.Steps.{firstShown, splitStep, stepAnswer, advancedBy, advanceOf, partShown, after}
+use Rattle.descriptors.specs.Tested.{admits, unreserved}
+use Rattle.descriptors.specs.Steps.{firstShown, splitStep, stepAnswer, advancedBy, advanceOf, partShown, cursorAfter}
 use Rattle.descriptors.specs.declared.cursor.Cursor.{Cursor}
 use Rattle.descriptors.specs.declared.cursor.Advance.{Advance}
 use Rattle.descriptors.proofs.Split.{split-flatten}
@@ -117,10 +117,10 @@ module _ (label strict : Bool) (s : List ℕ) where
 
   -- the step after i steps from c shows d
   abbrev Shown : Cursor → ℕ → List ℕ → Type 0
-  Shown c i d = let a = advanceOf s (after i s c) in (a .number ≡ 0) × (partShown s a ≡ d)
+  Shown c i d = let a = advanceOf s (cursorAfter i s c) in (a .number ≡ 0) × (partShown s a ≡ d)
 
   moved : (at : ℕ) (d : List ℕ) (us : List (List ℕ)) (w : Shows label strict s at d us) → advanceOf s (cursor at) .next ≡ cursor (w .end)
-  moved at d us w = ap (λ (a : Answer). advancedBy (cursor at) a .next) (w .answer)
+  moved at d us w = ap (λ (a : ℕ × List ℕ). advancedBy (cursor at) a .next) (w .answer)
 
   pub in-order : (i at : ℕ) (ds : List (List ℕ)) → Stands label strict s at ds → i < length (unreserved label ds)
       → Shown (cursor at) i (getD (unreserved label ds) i [])
@@ -130,8 +130,8 @@ module _ (label strict : Bool) (s : List ℕ) where
       first [] e k = absurd (omega arith)
       first (d ∷ us) e k =
           let w = shows at ds d us h e in (
-            ap (λ (a : Answer). a .0) (w .answer),
-            ap (λ (a : Answer). partShown s (advancedBy (cursor at) a)) (w .answer) ∙ w .part,
+            ap (λ (a : ℕ × List ℕ). a .0) (w .answer),
+            ap (λ (a : ℕ × List ℕ). partShown s (advancedBy (cursor at) a)) (w .answer) ∙ w .part,
           )
   in-order (suc i) at ds h k = later (unreserved label ds) refl k (in-order i)
     where
@@ -147,11 +147,11 @@ module _ (label strict : Bool) (s : List ℕ) where
   abbrev Still : Cursor → Type 0
   Still c = advanceOf s c ≡ record { number = 0; from = c .at; end = c .at; next = c }
 
-  still-after : (i : ℕ) (c : Cursor) → Still c → after i s c ≡ c
+  still-after : (i : ℕ) (c : Cursor) → Still c → cursorAfter i s c ≡ c
   still-after zero c h = refl
-  still-after (suc i) c h = ap (λ (a : Advance). after i s (a .next)) h ∙ still-after i c h
+  still-after (suc i) c h = ap (λ (a : Advance). cursorAfter i s (a .next)) h ∙ still-after i c h
 
-  pub then-still : (i at : ℕ) (ds : List (List ℕ)) → Stands label strict s at ds → length (unreserved label ds) ≤ i → Still (after i s (cursor at))
+  pub then-still : (i at : ℕ) (ds : List (List ℕ)) → Stands label strict s at ds → length (unreserved label ds) ≤ i → Still (cursorAfter i s (cursor at))
   then-still zero at ds h k = none-left (unreserved label ds) refl k
     where
       none-left : (us : List (List ℕ)) → unreserved label ds ≡ us → length us ≤ 0 → Still (cursor at)
@@ -160,12 +160,12 @@ module _ (label strict : Bool) (s : List ℕ) where
   then-still (suc i) at ds h k = later (unreserved label ds) refl k (then-still i)
     where
       later : (us : List (List ℕ)) → unreserved label ds ≡ us → length us ≤ suc i
-          → ((end : ℕ) (rest : List (List ℕ)) → Stands label strict s end rest → length (unreserved label rest) ≤ i → Still (after i s (cursor end)))
-          → Still (after (suc i) s (cursor at))
+          → ((end : ℕ) (rest : List (List ℕ)) → Stands label strict s end rest → length (unreserved label rest) ≤ i → Still (cursorAfter i s (cursor end)))
+          → Still (cursorAfter (suc i) s (cursor at))
       later [] e k ih =
           let here : Still (cursor at) = ap (advancedBy (cursor at)) (shows-none at ds h e) in
           subst (λ (c : Cursor). Still c) (sym (still-after (suc i) (cursor at) here)) here
       later (d ∷ us) e k ih =
           let w = shows at ds d us h e in
-          subst (λ (c : Cursor). Still (after i s c)) (sym (moved at d us w))
-          (subst (λ (l : List (List ℕ)). length l ≤ i → Still (after i s (cursor (w .end)))) (w .later) (ih (w .end) (w .rest) (w .stands)) (omega arith))
+          subst (λ (c : Cursor). Still (cursorAfter i s c)) (sym (moved at d us w))
+          (subst (λ (l : List (List ℕ)). length l ≤ i → Still (cursorAfter i s (cursor (w .end)))) (w .later) (ih (w .end) (w .rest) (w .stands)) (omega arith))

@@ -7,10 +7,10 @@ use Prim.Native.Nat.{ℕ}
 use lib.Dec.{eqb}
 use Rattle.octets.specs.Lent.{when}
 use Rattle.octets.proofs.Unique.{unique, unique-by}
-use Rattle.descriptors.specs.Tested.{Answer, testedSays, listAnswer, listCheck}
+use Rattle.descriptors.specs.Tested.{testedSays, listAnswer, listCheck}
 use Rattle.descriptors.specs.Steps.{stepSays, stepAnswer, begunOf, advanceOf, listStep}
 use Rattle.descriptors.specs.Labels.{labelSays, labelAnswer, labelCheck}
-use Rattle.descriptors.specs.Laws.{TestUnique, StepUnique, BeginUnique, AdvanceUnique, LabelUnique, ListCheckUnique, ListStepUnique, LabelCheckUnique}
+use Rattle.descriptors.specs.Laws.{TestUnique, StepUnique, BeginUnique, AdvanceAtUnique, LabelUnique, ListCheckUnique, ListStepUnique, LabelCheckUnique}
 use Rattle.descriptors.specs.declared.cursor.Step.{Step}
 use Rattle.descriptors.specs.declared.cursor.Step.the-variants.{One, Nothing, Broken}
 use Rattle.descriptors.specs.declared.label.Label.{Label}
@@ -18,7 +18,7 @@ use Rattle.descriptors.specs.declared.label.Label.the-variants as L
 use Rattle.descriptors.specs.declared.list.Tested.{Tested}
 use Rattle.descriptors.specs.declared.list.Tested.the-variants.{Counted, Refused}
 
-abbrev tested : Answer → Tested
+abbrev tested : (ℕ × List ℕ) → Tested
 tested a = of (a .1)
   where
     of : List ℕ → Tested
@@ -29,7 +29,7 @@ tested-back : (a : Tested) → tested (testedSays a) ≡ a
 tested-back (Counted n) = refl
 tested-back Refused = refl
 
-abbrev step : Answer → Step
+abbrev step : (ℕ × List ℕ) → Step
 step a = of (a .1)
   where
     of : List ℕ → Step
@@ -42,7 +42,7 @@ step-back (One from end) = refl
 step-back Nothing = refl
 step-back Broken = refl
 
-abbrev label : Answer → Label
+abbrev label : (ℕ × List ℕ) → Label
 label a = of (a .1)
   where
     of : List ℕ → Label
@@ -66,8 +66,8 @@ label-unique s = unique-by labelSays label label-back (labelAnswer s)
 pub begin-unique : (l t : Bool) (s : List ℕ) → BeginUnique l t s
 begin-unique l t s = unique (begunOf s l t)
 
-pub advance-unique : AdvanceUnique
-advance-unique s c = unique (advanceOf s c)
+pub advance-at-unique : AdvanceAtUnique
+advance-at-unique s c = unique (advanceOf s c)
 
 pub list-check-unique : (l t : Bool) (s : List ℕ) (before : ℕ) → ListCheckUnique l t s before
 list-check-unique l t s before = unique (listCheck l t s before)

@@ -13,15 +13,14 @@ use Rattle.octets.specs.Tests.{all, partOf}
 use Rattle.octets.proofs.Tests.{and-left, and-right}
 use Rattle.descriptors.specs.Descriptor.{typeOf, isReserved, isRefused, isDescriptor}
 use Rattle.descriptors.specs.Parse.{split}
-use Rattle.descriptors.specs.Tested.{Answer}
 use Rattle.descriptors.specs.Steps.{firstShown, splitStep}
 use Rattle.descriptors.specs.Laws.{ShownWhole, ShowsWhole}
 use Rattle.descriptors.proofs.Sizes.{said-least, descriptor-parts}
 use Rattle.descriptors.proofs.Split.{split-joined, split-whole}
 
 -- an answer that shows nothing shows no places
-no-places : (n from end : ℕ) → _≡_ {A = Answer} (n, []) (0, from ∷ end ∷ []) → ⊥
-no-places n from end e = let z : _≡_ {A = ℕ} 0 2 = ap (λ (a : Answer). length (a .1)) e in omega arith
+no-places : (n from end : ℕ) → _≡_ {A = ℕ × List ℕ} (n, []) (0, from ∷ end ∷ []) → ⊥
+no-places n from end e = let z : _≡_ {A = ℕ} 0 2 = ap (λ (a : ℕ × List ℕ). length (a .1)) e in omega arith
 
 -- the first of some descriptors that stand at a place, and what follows it
 module _ (s : List ℕ) (at : ℕ) (d : List ℕ) (ds : List (List ℕ)) (left : List ℕ) (is : drop at s ≡ flatten (d ∷ ds) ++ left) where
@@ -50,7 +49,7 @@ first-whole label strict s at from end (d ∷ ds) left is w e =
     go (isRefused label strict (typeOf d)) (isReserved label (typeOf d)) refl
     (first-whole label strict s (at + length d) from end ds left (past-is s at d ds left is) (and-right (isDescriptor d) (all isDescriptor ds) w)) e
   where
-    rest : Answer
+    rest : ℕ × List ℕ
     rest = firstShown label strict (at + length d) ds left
 
     whole : isDescriptor d ≡ true
@@ -61,8 +60,8 @@ first-whole label strict s at from end (d ∷ ds) left is w e =
     go true r k ih q = absurd (no-places 2 from end q)
     go false true k ih q = let h = ih q in record { later = omega (arith, h .later); within = h .within; whole = h .whole; allowed = h .allowed }
     go false false k ih q =
-        let here : at ≡ from = ap (λ (a : Answer). getD (a .1) 0 0) q in
-        let there : at + length d ≡ end = ap (λ (a : Answer). getD (a .1) 1 0) q in
+        let here : at ≡ from = ap (λ (a : ℕ × List ℕ). getD (a .1) 0 0) q in
+        let there : at + length d ≡ end = ap (λ (a : ℕ × List ℕ). getD (a .1) 1 0) q in
         let shown : partOf s from (end - from) ≡ d = rw (← here, ← there) (part-is s at d ds left is) in
         record {
           later = omega arith;

@@ -10,15 +10,15 @@ use Rattle.octets.specs.Lent.{when}
 use Rattle.octets.specs.Tests.{every}
 
 -- type, zero byte and length
-abbrev pub headSize : ℕ
-headSize = 4
+abbrev pub descriptorHeadSize : ℕ
+descriptorHeadSize = 4
 
 abbrev pub typeOf : List ℕ → ℕ
 typeOf d = getD d 0 0
 
 -- the bytes of a whole descriptor, as its length says
 unfoldable pub sizeSaid : List ℕ → ℕ
-sizeSaid d = headSize + numberAt 2 d 2
+sizeSaid d = descriptorHeadSize + numberAt 2 d 2
 
 -- the bytes are one whole descriptor, no more and no fewer
 unfoldable pub isDescriptor : List ℕ → Bool

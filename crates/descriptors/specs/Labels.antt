@@ -9,7 +9,7 @@ use Rattle.octets.specs.Lent.{Tests, lowest, kept}
 use Rattle.octets.specs.Tests.{every, zeros}
 use Rattle.descriptors.specs.Descriptor.{typeOf}
 use Rattle.descriptors.specs.Parse.{split}
-use Rattle.descriptors.specs.Tested.{Answer, listOk, countOf}
+use Rattle.descriptors.specs.Tested.{listOk, countOf}
 use Rattle.descriptors.specs.declared.label.Label.{Label}
 use Rattle.descriptors.specs.declared.label.Label.the-variants.{Counted, Broken, Long}
 
@@ -52,12 +52,12 @@ labelTests s = (2, not (labelOk s)) ∷ (4, ltb labelMax (length s)) ∷ []
 abbrev pub labelNumber : List ℕ → ℕ
 labelNumber s = lowest (labelTests s)
 
-abbrev pub labelSays : Label → Answer
+abbrev pub labelSays : Label → ℕ × List ℕ
 labelSays (Counted n) = (0, n ∷ [])
 labelSays Broken = (2, [])
 labelSays Long = (4, [])
 
-abbrev pub labelAnswer : List ℕ → Answer
+abbrev pub labelAnswer : List ℕ → ℕ × List ℕ
 labelAnswer s = (labelNumber s, kept (labelNumber s) (countOf true (listOf s) ∷ []) [])
 
 -- the number, and a lent count after it, which 0 alone changes

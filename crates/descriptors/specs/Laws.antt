@@ -13,7 +13,7 @@ use Rattle.octets.specs.Unique.{Unique, UniqueBy}
 use Rattle.descriptors.specs.Descriptor.{typeOf, isReserved, isDescriptor, sizeOf}
 use Rattle.descriptors.specs.Parse.{split, parse}
 use Rattle.descriptors.specs.Tested.{admits, listOk, unreserved, listTests, testedSays, listAnswer, listCheck}
-use Rattle.descriptors.specs.Steps.{leftTests, stepSays, stepAnswer, opened, begunOf, advanceOf, partShown, after, listStep}
+use Rattle.descriptors.specs.Steps.{leftTests, stepSays, stepAnswer, cursorAtStart, begunOf, advanceOf, partShown, cursorAfter, listStep}
 use Rattle.descriptors.specs.Labels.{labelMax, listOf, holds, labelTests, labelSays, labelAnswer, labelCheck}
 use Rattle.descriptors.specs.declared.cursor.Cursor.{Cursor}
 
@@ -50,13 +50,13 @@ AcceptsExactly = (label strict : Bool) (s : List ℕ) (n : ℕ) → (listAnswer 
 abbrev pub ShowsInOrder : Type 0
 ShowsInOrder =
     (label strict : Bool) (s : List ℕ) (ds : List (List ℕ)) (i : ℕ) → listOk label strict s ≡ true → parse s ≡ some ds → i < length (unreserved label ds)
-    → let a = advanceOf s (after i s (opened label strict)) in (a .number ≡ 0) × (partShown s a ≡ getD (unreserved label ds) i [])
+    → let a = advanceOf s (cursorAfter i s (cursorAtStart label strict)) in (a .number ≡ 0) × (partShown s a ≡ getD (unreserved label ds) i [])
 
 -- and every later one shows nothing, gives 0 and does not move
 abbrev pub ThenNothing : Type 0
 ThenNothing =
     (label strict : Bool) (s : List ℕ) (ds : List (List ℕ)) (i : ℕ) → listOk label strict s ≡ true → parse s ≡ some ds → length (unreserved label ds) ≤ i
-    → let c = after i s (opened label strict) in advanceOf s c ≡ record { number = 0; from = c .at; end = c .at; next = c }
+    → let c = cursorAfter i s (cursorAtStart label strict) in advanceOf s c ≡ record { number = 0; from = c .at; end = c .at; next = c }
 
 -- of any list and place: "each step shows one whole descriptor, from its type byte on", that is not reserved and lies in the list at or after the place
 pub record ShownWhole (label : Bool) (s : List ℕ) (at from end : ℕ) : Type 0 where
@@ -115,8 +115,8 @@ module _ (label strict : Bool) (s : List ℕ) where
   abbrev pub ListStepUnique : ℕ → List ℕ → Type 0
   ListStepUnique at before = Unique (listStep label strict s at before)
 
-abbrev pub AdvanceUnique : Type 0
-AdvanceUnique = (s : List ℕ) (c : Cursor) → Unique (advanceOf s c)
+abbrev pub AdvanceAtUnique : Type 0
+AdvanceAtUnique = (s : List ℕ) (c : Cursor) → Unique (advanceOf s c)
 
 abbrev pub LabelUnique : Type 0
 LabelUnique = (s : List ℕ) → UniqueBy labelSays (labelAnswer s)

@@ -11,7 +11,7 @@ use Rattle.octets.specs.Places.{Placed, placed, partIn}
 use Rattle.octets.specs.Unique.{Unique}
 use Rattle.descriptors.specs.Parse.{parse}
 use Rattle.descriptors.specs.Tested.{unreserved}
-use Rattle.descriptors.specs.Steps.{opened, advanceOf, after}
+use Rattle.descriptors.specs.Steps.{cursorAtStart, advanceOf, cursorAfter}
 use Rattle.descriptors.specs.Readers.{standing, openedOf, shownSays, shownOf, nextOf}
 use Rattle.descriptors.specs.declared.cursor.Cursor.{Cursor}
 use Rattle.descriptors.specs.declared.reader.Reader.{Reader}
@@ -19,7 +19,7 @@ use Rattle.descriptors.specs.declared.reader.Opened.{Opened}
 use Rattle.descriptors.specs.declared.reader.Shown.{Shown}
 
 -- a list opened, and one step after the other on the reader where it is held: all that is known of them is what the calls ensure
-pub record Run (l : RefT (List ℕ)) (label strict : Bool) : Type 0 where
+pub record ReaderRun (l : RefT (List ℕ)) (label strict : Bool) : Type 0 where
   pub opened : Opened
   pub held : ℕ → Reader
   pub shown : ℕ → Shown
@@ -27,7 +27,7 @@ pub record Run (l : RefT (List ℕ)) (label strict : Bool) : Type 0 where
   pub first : held 0 ≡ opened .reader
   pub steps : (i : ℕ) → nextOf (held i) ≡ (shownSays (shown i), held (suc i))
 
-module _ (l : RefT (List ℕ)) (label strict : Bool) (run : Run l label strict) (ds : List (List ℕ)) where
+module _ (l : RefT (List ℕ)) (label strict : Bool) (run : ReaderRun l label strict) (ds : List (List ℕ)) where
   -- opened with 0, the count is the number of the list's unreserved descriptors
   abbrev pub ReaderCounts : Type 0
   ReaderCounts = run .opened .number ≡ 0 → parse (now l) ≡ some ds → run .opened .count ≡ length (unreserved label ds)
@@ -36,7 +36,7 @@ module _ (l : RefT (List ℕ)) (label strict : Bool) (run : Run l label strict) 
   abbrev pub ReaderShows : Type 0
   ReaderShows =
       (i : ℕ) → run .opened .number ≡ 0 → parse (now l) ≡ some ds → i < length (unreserved label ds)
-      → let a = advanceOf (now l) (after i (now l) (opened label strict)) in
+      → let a = advanceOf (now l) (cursorAfter i (now l) (cursorAtStart label strict)) in
       (shownSays (run .shown i) ≡ (0, partIn (placed l) (a .from) (a .end - a .from))) × (now (run .shown i .part) ≡ getD (unreserved label ds) i [])
 
   -- and every later one shows nothing, gives 0 and does not move
@@ -51,11 +51,11 @@ ReaderRefusedStays = (d : Reader) → (shownOf d .0 ≡ 0 → ⊥) → (shownOf 
 
 -- ---- for each input one answer, and one reader after it; of a part handed back, its bytes and where they lie
 
-abbrev pub OpenUnique : Type 0
-OpenUnique = (l : RefT (List ℕ)) (label strict : Bool) → Unique (openedOf l label strict)
+abbrev pub ReaderOpenUnique : Type 0
+ReaderOpenUnique = (l : RefT (List ℕ)) (label strict : Bool) → Unique (openedOf l label strict)
 
-abbrev pub NextUnique : Type 0
-NextUnique = (d : Reader) → Unique (nextOf d)
+abbrev pub ReaderNextUnique : Type 0
+ReaderNextUnique = (d : Reader) → Unique (nextOf d)
 
 abbrev pub PartAtUnique : Type 0
 PartAtUnique = (s : Placed) (from end : ℕ) → Unique (partIn s from (end - from))

@@ -12,10 +12,6 @@ use Rattle.descriptors.specs.Parse.{Split, split}
 use Rattle.descriptors.specs.declared.list.Tested.{Tested}
 use Rattle.descriptors.specs.declared.list.Tested.the-variants.{Counted, Refused}
 
--- a number, and the values that come with it
-abbrev pub Answer : Type 0
-Answer = ℕ × List ℕ
-
 -- "Types strictly rise", from `least` on; reserved ones too
 unfoldable pub risesFrom : ℕ → List (List ℕ) → Bool
 risesFrom least [] = true
@@ -51,11 +47,11 @@ listTests label strict s = (2, not (listOk label strict s)) ∷ []
 abbrev pub listNumber : Bool → Bool → List ℕ → ℕ
 listNumber label strict s = lowest (listTests label strict s)
 
-abbrev pub testedSays : Tested → Answer
+abbrev pub testedSays : Tested → ℕ × List ℕ
 testedSays (Counted n) = (0, n ∷ [])
 testedSays Refused = (2, [])
 
-abbrev pub listAnswer : Bool → Bool → List ℕ → Answer
+abbrev pub listAnswer : Bool → Bool → List ℕ → ℕ × List ℕ
 listAnswer label strict s = (listNumber label strict s, kept (listNumber label strict s) (countOf label s ∷ []) [])
 
 -- the number, and a lent count after it, which 0 alone changes

@@ -2,7 +2,7 @@
 use crate::descriptor::reserved;
 use crate::descriptor::size_at;
 use crate::list::Tested;
-use crate::list::test;
+use crate::list::check_list;
 use octets::big_endian::read8;
 use octets::strings::part_in;
 ghost use mathlib.Core.Path.{_≡_};
@@ -76,7 +76,7 @@ pub fn begin(list: &[u8], label: bool, strict: bool) -> Begun
         label,
         strict,
     };
-    match test(list, label, strict) {
+    match check_list(list, label, strict) {
         Tested::Counted(n) => Begun {
             number: 0,
             count: n,

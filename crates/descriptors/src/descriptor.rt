@@ -6,7 +6,11 @@ ghost use mathlib.Core.Path.{_≡_};
 ghost use lib.ListN.{drop};
 ghost use Rattle.descriptors.specs.Descriptor.{sizeOf, isReserved};
 
-// Type, zero byte and length.
+// Type, zero byte and length: where the last two stand, and the size of all.
+const ZERO_AT: usize = 1;
+
+const LENGTH_AT: usize = 2;
+
 const HEAD_SIZE: usize = 4;
 
 // The reserved types of a page and of a label: from these on, and to this.
@@ -27,8 +31,8 @@ pub(crate) fn rest(s: &[u8], at: usize) -> &[u8]
 pub(crate) fn size_of(s: &[u8]) -> usize
     ensures { λ r. ⌜ r ≡ sizeOf (now (s .entry)) ⌝ }
 {
-    let n = HEAD_SIZE + read16(s, 2);
-    if (read8(s, 1) == 0) & (n <= s.len()) {
+    let n = HEAD_SIZE + read16(s, LENGTH_AT);
+    if (read8(s, ZERO_AT) == 0) & (n <= s.len()) {
         return n;
     }
     0

@@ -2,7 +2,7 @@
 use crate::descriptor::rest;
 use crate::descriptor::size_at;
 use crate::list::Tested;
-use crate::list::test;
+use crate::list::check_list;
 use octets::big_endian::read8;
 use octets::strings::all_zero;
 use octets::strings::part;
@@ -47,10 +47,10 @@ fn shaped(label: &[u8]) -> bool
     let list = rest(label, ZERO_SIZE);
     (ZERO_SIZE <= label.len())
         & all_zero(part(label, 0, ZERO_SIZE))
-        & has(list, 0)
-        & has(list, 1)
-        & has(list, 3)
-        & has(list, 4)
+        & has(list, 0x00)
+        & has(list, 0x01)
+        & has(list, 0x03)
+        & has(list, 0x04)
 }
 
 // Tests a label.
@@ -60,7 +60,7 @@ pub fn check_label(label: &[u8]) -> Label
     if !shaped(label) {
         return Label::Broken;
     }
-    let Tested::Counted(n) = test(rest(label, ZERO_SIZE), true, false) else {
+    let Tested::Counted(n) = check_list(rest(label, ZERO_SIZE), true, false) else {
         return Label::Broken;
     };
     if label.len() > LABEL_MAX {

@@ -12,7 +12,7 @@ use cursor::advance_at;
 use label::Label;
 use label::check_label;
 use list::Tested;
-use list::test;
+use list::check_list;
 ghost use mathlib.Core.Path.{_≡_};
 ghost use Rattle.descriptors.specs.Tested.{listCheck};
 ghost use Rattle.descriptors.specs.Steps.{listStep};
@@ -22,7 +22,7 @@ ghost use Rattle.descriptors.specs.Labels.{labelCheck};
 pub fn list_check(list: &[u8], label: bool, strict: bool, count: &mut u64) -> u8
     ensures { λ n. ⌜ listCheck label strict (now (list .entry)) (now (count .entry)) ≡ (n, now (count .exit)) ⌝ }
 {
-    let Tested::Counted(n) = test(list, label, strict) else {
+    let Tested::Counted(n) = check_list(list, label, strict) else {
         return 2;
     };
     *count = n as u64;

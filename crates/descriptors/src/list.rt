@@ -34,7 +34,7 @@ fn counted(label: bool, kind: usize) -> usize
 }
 
 // Tests a whole list.
-pub fn test(list: &[u8], label: bool, strict: bool) -> Tested
+pub fn check_list(list: &[u8], label: bool, strict: bool) -> Tested
     ensures { λ r. ⌜ testedSays r ≡ listAnswer label strict (now (list .entry)) ⌝ }
 {
     let mut at = 0;

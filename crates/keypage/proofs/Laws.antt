@@ -5,26 +5,29 @@ use mathlib.Core.Logic.{_↔_}
 use mathlib.Core.List.{List}
 use mathlib.Core.Option.{some}
 use Prim.Native.Nat.{ℕ, _+_}
+use borrow.Author.Tests.{eq-eqb}
 use lib.ListN.{length}
 use Rattle.octets.specs.Bytes.{Bytes}
-use Rattle.octets.specs.Lent.{over, answer}
+use Rattle.octets.specs.Lent.{over}
 use Rattle.octets.proofs.Bytes.{bytes-take, bytes-drop}
 use Rattle.octets.proofs.Unique.{unique}
-use Rattle.keytable.specs.Row.{keySize, useOf, keyOf}
+use Rattle.keytable.specs.Row.{rowKeySize, useOf, rowKey}
 use Rattle.keytable.specs.Table.{rowFor, dataRow}
 use Rattle.keytable.proofs.Laws.{rowFor-good}
 use Rattle.keywrap.specs.Calls.{wrappedSize, unwrapAnswer}
 use Rattle.keywrap.specs.Laws.{WrapsTo, UnwrapsTo}
 use Rattle.keywrap.proofs.Laws.{unwraps-exactly, wrapped-length}
-use Rattle.keypage.specs.Page.{keyAt, algorithmIn, formatIn, keyLength, keyPart, fieldsOf}
+use Rattle.keypage.specs.Page.{keyPartAt, algorithmIn, formatIn, keyLength, keyPart, fieldsOf}
 use Rattle.keypage.specs.KeyPart.{plainFormat, referenceFormat, wrappedFormat, kekUse, identifierAt, identifierSize, identifierOf, wrappedOf}
-use Rattle.keypage.specs.Read.{readAnswer}
-use Rattle.keypage.specs.Load.{keyIn, keyLoaded, loadAnswer}
+use Rattle.keypage.specs.Read.{pageReadAnswer}
+use Rattle.keypage.specs.Load.{keyIn, keyLoaded, partAnswer, loadAnswer}
 use Rattle.keypage.specs.Laws.{Readable, ReadsExactly, Loads, LoadsPlain, LoadsReference, LoadsWrapped, NoRowSix}
-use Rattle.keypage.specs.Laws.{LoadOtherRows, ReadTestsRise, PartTestsRise, LoadTestsRise, ReadUnique, LoadUnique}
-use Rattle.keypage.proofs.Permitted.{read-passed, passed-read, passed-readable, readable-passed, read-done, read-zero, read-part}
-use Rattle.keypage.proofs.Laid.{known, known-needs, plain-size}
-use Rattle.keypage.proofs.Loaded.{partNumber, part-row, part-none, part-use, reference-passed, wrapped-size, wrapped-answer, load-six, load-told, load-written, load-key, key-loads}
+use Rattle.keypage.specs.Laws.{LoadOtherRows, PageReadTestsRise, PartTestsRise, LoadTestsRise, PageReadUnique, LoadUnique}
+use Rattle.keypage.proofs.ReadNumbers.{read-passed, page-fields}
+use Rattle.keypage.proofs.Page.{passed-read, passed-readable, readable-passed, answer-told, read-part}
+use Rattle.keypage.proofs.KeyPart.{known, known-needs, plain-size}
+use Rattle.keypage.proofs.LoadNumbers.{wrapped-rest}
+use Rattle.keypage.proofs.Load.{partNumber, part-row, part-none, part-use, reference-passed, wrapped-size, load-six, load-told, load-written, load-key, key-loads}
 use Rattle.keytable.proofs.RowFound.{row-key-bytes}
 use Rattle.octets.proofs.Lent.{answer-done, answer-zero}
 
@@ -33,13 +36,13 @@ use Rattle.octets.proofs.Lent.{answer-done, answer-zero}
 pub reads-exactly : ReadsExactly
 reads-exactly p fields after = (to, from)
   where
-    to : readAnswer p fields ≡ (0, after) → Readable p × (after ≡ fieldsOf p)
+    to : pageReadAnswer p fields ≡ (0, after) → Readable p × (after ≡ fieldsOf p)
     to e =
-        let zero = read-zero p fields after e in
-        (passed-readable p (read-passed p zero), ap (λ (x : ℕ × List ℕ). x .1) (sym e ∙ read-done p fields zero))
+        let zero = answer-told p fields after e in
+        (passed-readable p (read-passed p zero), ap (λ (x : ℕ × List ℕ). x .1) (sym e ∙ page-fields p fields 0 (sym zero) refl))
 
-    from : Readable p × (after ≡ fieldsOf p) → readAnswer p fields ≡ (0, after)
-    from h = read-done p fields (passed-read p (readable-passed p (h .0))) ∙ ap (λ (l : List ℕ). (0, l)) (sym (h .1))
+    from : Readable p × (after ≡ fieldsOf p) → pageReadAnswer p fields ≡ (0, after)
+    from h = page-fields p fields 0 (sym (passed-read p (readable-passed p (h .0)))) refl ∙ ap (λ (l : List ℕ). (0, l)) (sym (h .1))
 
 -- ---- loading
 
@@ -54,13 +57,13 @@ unfolding keyLoaded
 loads-reference t p out fields k given is = (to, from)
   where
     Row : Type 0
-    Row = (row : List ℕ) × (dataRow t (keyPart p) ≡ some row) × (useOf row ≡ algorithmIn p) × (keyOf row ≡ k)
+    Row = (row : List ℕ) × (dataRow t (keyPart p) ≡ some row) × (useOf row ≡ algorithmIn p) × (rowKey row ≡ k)
 
     to : Loads t p out fields k → Row
     to h =
         let zero = load-told t p out fields given referenceFormat is k h in
         let (row, has) = part-row (dataRow t (keyPart p)) (algorithmIn p) referenceFormat (keyPart p) refl zero in
-        let size : length (keyIn (dataRow t (keyPart p))) ≡ keySize = rw has (rowFor-good t (keyPart p) row (given .accepted) has .key-size) in (
+        let size : length (keyIn (dataRow t (keyPart p))) ≡ rowKeySize = rw has (rowFor-good t (keyPart p) row (given .table-accepted) has .key-size) in (
           row,
           has,
           part-use row (algorithmIn p) referenceFormat (keyPart p) refl (rw has at zero),
@@ -70,7 +73,7 @@ loads-reference t p out fields k given is = (to, from)
     from : Row → Loads t p out fields k
     from (row, has, use-is, key-is) =
         key-loads t p out fields given referenceFormat is k (rw has (reference-passed row (algorithmIn p) (keyPart p) use-is))
-        (sym (ap length key-is) ∙ rowFor-good t (keyPart p) row (given .accepted) has .key-size)
+        (sym (ap length key-is) ∙ rowFor-good t (keyPart p) row (given .table-accepted) has .key-size)
         (ap (λ (l : List ℕ). over l out) (ap keyIn has ∙ key-is))
 
 pub loads-wrapped : LoadsWrapped
@@ -83,22 +86,22 @@ loads-wrapped t p out fields k given bytes-t bytes-p is = (to, from)
     w = wrappedOf (keyPart p)
 
     bytes-w : Bytes w
-    bytes-w = bytes-drop (identifierAt + identifierSize (keyPart p)) (bytes-take (keyLength p) (bytes-drop keyAt bytes-p))
+    bytes-w = bytes-drop (identifierAt + identifierSize (keyPart p)) (bytes-take (keyLength p) (bytes-drop keyPartAt bytes-p))
 
     -- unwrapping by the key of a row found
-    exactly : (row : List ℕ) → rowFor t name ≡ some row → length w ≡ wrappedSize → UnwrapsTo (keyOf row) w out k ↔ WrapsTo (keyOf row) k w
+    exactly : (row : List ℕ) → rowFor t name ≡ some row → length w ≡ wrappedSize → UnwrapsTo (rowKey row) w out k ↔ WrapsTo (rowKey row) k w
     exactly row has size =
-        unwraps-exactly (keyOf row) w out k (rowFor-good t name row (given .accepted) has .key-size) (row-key-bytes t name row bytes-t has)
-        size bytes-w (given .room)
+        unwraps-exactly (rowKey row) w out k (rowFor-good t name row (given .table-accepted) has .key-size) (row-key-bytes t name row bytes-t has)
+        size bytes-w (given .key-fits)
 
     Row : Type 0
-    Row = (row : List ℕ) × (rowFor t name ≡ some row) × (useOf row ≡ kekUse) × WrapsTo (keyOf row) k w
+    Row = (row : List ℕ) × (rowFor t name ≡ some row) × (useOf row ≡ kekUse) × WrapsTo (rowKey row) k w
 
     as-unwrapped : (row : List ℕ) → rowFor t name ≡ some row → useOf row ≡ kekUse
-        → answer (partNumber (some row) (algorithmIn p) wrappedFormat (keyPart p)) (keyLoaded (some row) wrappedFormat (keyPart p)) out
-        ≡ unwrapAnswer (keyOf row) w out
+        → partAnswer (some row) (algorithmIn p) wrappedFormat (keyPart p) out ≡ unwrapAnswer (rowKey row) w out
     as-unwrapped row has use-is =
-        wrapped-answer row (algorithmIn p) (keyPart p) out use-is (rowFor-good t name row (given .accepted) has .key-size) (given .room)
+        wrapped-rest (some row) (algorithmIn p) (keyPart p) out row refl (eq-eqb (useOf row) kekUse use-is)
+        (rowFor-good t name row (given .table-accepted) has .key-size) (given .key-fits)
 
     to : Loads t p out fields k → Row
     to h =
@@ -108,13 +111,13 @@ loads-wrapped t p out fields k given bytes-t bytes-p is = (to, from)
         let use-is = part-use row (algorithmIn p) wrappedFormat (keyPart p) refl passed in
         let written : over (keyLoaded (some row) wrappedFormat (keyPart p)) out ≡ over k out =
         rw has at (load-written t p out fields given wrappedFormat is k h) in
-        let answers : unwrapAnswer (keyOf row) w out ≡ (0, over k out) =
+        let answers : unwrapAnswer (rowKey row) w out ≡ (0, over k out) =
         sym (as-unwrapped row has use-is) ∙ answer-done _ _ out passed ∙ ap (λ (l : List ℕ). (0, l)) written in
         (row, has, use-is, exactly row has (wrapped-size row (algorithmIn p) (keyPart p) passed) .0 (record { size = h .size; answers = answers }))
 
     from : Row → Loads t p out fields k
     from (row, has, use-is, wraps) =
-        let size : length w ≡ wrappedSize = sym (ap length (wraps .wraps)) ∙ wrapped-length (keyOf row) k in
+        let size : length w ≡ wrappedSize = sym (ap length (wraps .wraps)) ∙ wrapped-length (rowKey row) k in
         let told = answer-zero _ _ out (over k out) (as-unwrapped row has use-is ∙ exactly row has size .1 wraps .answers) in
         key-loads t p out fields given wrappedFormat is k (rw has (told .0)) (wraps .size) (rw has (told .1))
 
@@ -130,8 +133,8 @@ load-other-rows t u p out fields ok-t ok-u e = rw (ok-t, ok-u, e)
 
 -- ---- the lowest
 
-pub read-tests-rise : ReadTestsRise
-read-tests-rise p = refl
+pub page-read-tests-rise : PageReadTestsRise
+page-read-tests-rise p = refl
 
 pub part-tests-rise : PartTestsRise
 part-tests-rise row algorithm f s = refl
@@ -141,8 +144,8 @@ load-tests-rise ok row p room = refl
 
 -- ---- one answer
 
-pub read-unique : ReadUnique
-read-unique p fields = unique (readAnswer p fields)
+pub page-read-unique : PageReadUnique
+page-read-unique p fields = unique (pageReadAnswer p fields)
 
 pub load-unique : LoadUnique
 load-unique t p out fields = unique (loadAnswer t p out fields)

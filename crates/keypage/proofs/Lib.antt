@@ -1,7 +1,6 @@
-pub mod ByFormat
 pub mod ReadNumbers
+pub mod KeyPart
+pub mod Page
 pub mod LoadNumbers
-pub mod Laid
-pub mod Permitted
-pub mod Loaded
+pub mod Load
 pub mod Laws

@@ -10,47 +10,47 @@ use lib.Dec.{eqb, ltb}
 use lib.ListN.{length}
 use Rattle.octets.specs.Lent.{when, Tests, lowest, over, kept, answer}
 use Rattle.octets.proofs.Lent.{isNot-right}
-use Rattle.keytable.specs.Row.{keySize, useOf, keyOf}
+use Rattle.keytable.specs.Row.{rowKeySize, useOf, rowKey}
 use Rattle.keywrap.specs.Calls.{unwrapNumber, unwrapAnswer}
 use Rattle.keypage.specs.Page.{algorithmIn, formatIn, keyPart, fieldsOf}
-use Rattle.keypage.specs.KeyPart.{kekUse, wrappedOf}
-use Rattle.keypage.specs.Read.{readTests, readNumber}
+use Rattle.keypage.specs.KeyPart.{plainFormat, referenceFormat, wrappedFormat, kekUse, wrappedOf}
+use Rattle.keypage.specs.Read.{pageReadTests, pageReadNumber}
 use Rattle.keypage.specs.Load.{partTests, keyLoaded, partAnswer, loadTests, loadNumber, loadRow}
-use Rattle.keypage.proofs.ReadNumbers.{accepted}
+use Rattle.keypage.proofs.ReadNumbers.{read-passed}
 
 -- ---- the KEY part by the row that matched, the algorithm index and the format
 
 module _ (row : Option (List ℕ)) (algorithm : ℕ) (s out : List ℕ) where
-  pub plain-zero : (f : ℕ) → f ≡ 0 → partAnswer row algorithm f s out ≡ (0, over s out)
+  pub plain-zero : (f : ℕ) → f ≡ plainFormat → partAnswer row algorithm f s out ≡ (0, over s out)
   unfolding keyLoaded
   plain-zero f e = rw e
 
-  pub reference-six : row ≡ none → partAnswer row algorithm 1 s out ≡ (6, out)
+  pub reference-six : row ≡ none → partAnswer row algorithm referenceFormat s out ≡ (6, out)
   unfolding keyLoaded
   reference-six e = rw e
 
-  pub wrapped-six : row ≡ none → partAnswer row algorithm 4 s out ≡ (6, out)
+  pub wrapped-six : row ≡ none → partAnswer row algorithm wrappedFormat s out ≡ (6, out)
   unfolding keyLoaded
   wrapped-six e = rw e
 
   module _ (found : List ℕ) (has : row ≡ some found) where
-    pub reference-seven : eqb (useOf found) algorithm ≡ false → partAnswer row algorithm 1 s out ≡ (7, out)
+    pub reference-seven : eqb (useOf found) algorithm ≡ false → partAnswer row algorithm referenceFormat s out ≡ (7, out)
     unfolding keyLoaded
     reference-seven e = rw (has, e)
 
-    pub reference-zero : eqb (useOf found) algorithm ≡ true → partAnswer row algorithm 1 s out ≡ (0, over (keyOf found) out)
+    pub reference-zero : eqb (useOf found) algorithm ≡ true → partAnswer row algorithm referenceFormat s out ≡ (0, over (rowKey found) out)
     unfolding keyLoaded
     reference-zero e = rw (has, e)
 
-    pub wrapped-seven : eqb (useOf found) kekUse ≡ false → partAnswer row algorithm 4 s out ≡ (7, out)
+    pub wrapped-seven : eqb (useOf found) kekUse ≡ false → partAnswer row algorithm wrappedFormat s out ≡ (7, out)
     unfolding keyLoaded
     wrapped-seven e = rw (has, e)
 
     -- the unwrapping's own 2 and 5 cannot come
-    pub wrapped-rest : eqb (useOf found) kekUse ≡ true → length (keyOf found) ≡ keySize → keySize ≤ length out
-        → partAnswer row algorithm 4 s out ≡ unwrapAnswer (keyOf found) (wrappedOf s) out
+    pub wrapped-rest : eqb (useOf found) kekUse ≡ true → length (rowKey found) ≡ rowKeySize → rowKeySize ≤ length out
+        → partAnswer row algorithm wrappedFormat s out ≡ unwrapAnswer (rowKey found) (wrappedOf s) out
     unfolding keyLoaded unwrapAnswer unwrapNumber
-    wrapped-rest e size room = rw (has, e, isNot-right 32 (keyOf found) size, le-ltb (length out) 32 room)
+    wrapped-rest e size room = rw (has, e, isNot-right rowKeySize (rowKey found) size, le-ltb (length out) rowKeySize room)
 
 -- ---- the load
 
@@ -64,6 +64,12 @@ lowest-first (n ∷ ns) ms h = go (n .1) h (λ q. lowest-first ns ms q)
     go true q ih = refl
     go false q ih = ih q
 
+-- for an accepted table, a page that reading accepts, and room, the KEY part's own tests are left
+pub load-number : (ok : Bool) (row : Option (List ℕ)) (p : List ℕ) (room : ℕ) → ok ≡ true → pageReadNumber p ≡ 0 → ltb room rowKeySize ≡ false
+    → loadNumber ok row p room ≡ lowest (partTests row (algorithmIn p) (formatIn p) (keyPart p))
+unfolding loadNumber
+load-number ok row p room good readable fits = let passed = read-passed p readable in rw (good, passed .whole, passed .permitted, passed .short, fits)
+
 module _ (ok : Bool) (row : Option (List ℕ)) (p out fields : List ℕ) where
   pub load-one : ok ≡ false → loadRow ok row p out fields ≡ ((1, out), fields)
   unfolding loadRow loadNumber
@@ -71,37 +77,32 @@ module _ (ok : Bool) (row : Option (List ℕ)) (p out fields : List ℕ) where
 
   module _ (good : ok ≡ true) where
     -- a page that reading refuses
-    unread-number : (n : ℕ) → n ≡ readNumber p → (n ≡ 0 → ⊥) → loadNumber ok row p (length out) ≡ n
-    unfolding loadNumber readNumber
+    unread-number : (n : ℕ) → n ≡ pageReadNumber p → (n ≡ 0 → ⊥) → loadNumber ok row p (length out) ≡ n
+    unfolding loadNumber pageReadNumber
     unread-number n is refused =
         ap (λ (b : Bool). lowest (loadTests b row p (length out))) good
-        ∙ lowest-first (readTests p) ((5, ltb (length out) keySize) ∷ partTests row (algorithmIn p) (formatIn p) (keyPart p)) (λ z. refused (is ∙ z))
+        ∙ lowest-first (pageReadTests p) ((5, ltb (length out) rowKeySize) ∷ partTests row (algorithmIn p) (formatIn p) (keyPart p)) (λ z. refused (is ∙ z))
         ∙ sym is
 
-    pub load-unread : (n : ℕ) → n ≡ readNumber p → (n ≡ 0 → ⊥) → loadRow ok row p out fields ≡ ((n, out), fields)
+    pub load-unread : (n : ℕ) → n ≡ pageReadNumber p → (n ≡ 0 → ⊥) → loadRow ok row p out fields ≡ ((n, out), fields)
     unfolding loadRow
     load-unread n is refused = rw (unread-number n is refused, ne-eqb n 0 refused)
 
-    module _ (readable : readNumber p ≡ 0) where
-      pub load-five : ltb (length out) keySize ≡ true → loadRow ok row p out fields ≡ ((5, out), fields)
+    module _ (readable : pageReadNumber p ≡ 0) where
+      pub load-five : ltb (length out) rowKeySize ≡ true → loadRow ok row p out fields ≡ ((5, out), fields)
       unfolding loadRow loadNumber
-      load-five e = rw (good, accepted p readable .0, accepted p readable .1, accepted p readable .2, e)
+      load-five e = let passed = read-passed p readable in rw (good, passed .whole, passed .permitted, passed .short, e)
 
-      module _ (room : ltb (length out) keySize ≡ false) where
-        load-number : loadNumber ok row p (length out) ≡ lowest (partTests row (algorithmIn p) (formatIn p) (keyPart p))
-        unfolding loadNumber
-        load-number = rw (good, accepted p readable .0, accepted p readable .1, accepted p readable .2, room)
+      -- the KEY part decides
+      module _ (fits : ltb (length out) rowKeySize ≡ false) (x : ℕ) (after : List ℕ) (e : partAnswer row (algorithmIn p) (formatIn p) (keyPart p) out ≡ (x, after)) where
+        by-the-part : loadRow ok row p out fields ≡ ((x, after), kept x (fieldsOf p) fields)
+        unfolding loadRow
+        by-the-part =
+            ap (λ (n : ℕ). (answer n (keyLoaded row (formatIn p) (keyPart p)) out, kept n (fieldsOf p) fields)) (load-number ok row p (length out) good readable fits)
+            ∙ ap (λ (z : ℕ × List ℕ). (z, kept (z .0) (fieldsOf p) fields)) e
 
-        -- the KEY part decides
-        module _ (x : ℕ) (after : List ℕ) (e : partAnswer row (algorithmIn p) (formatIn p) (keyPart p) out ≡ (x, after)) where
-          by-the-part : loadRow ok row p out fields ≡ ((x, after), kept x (fieldsOf p) fields)
-          unfolding loadRow
-          by-the-part =
-              ap (λ (n : ℕ). (answer n (keyLoaded row (formatIn p) (keyPart p)) out, kept n (fieldsOf p) fields)) load-number
-              ∙ ap (λ (z : ℕ × List ℕ). (z, kept (z .0) (fieldsOf p) fields)) e
+        pub load-refused : (x ≡ 0 → ⊥) → loadRow ok row p out fields ≡ ((x, after), fields)
+        load-refused refused = by-the-part ∙ rw (ne-eqb x 0 refused)
 
-          pub load-refused : (x ≡ 0 → ⊥) → loadRow ok row p out fields ≡ ((x, after), fields)
-          load-refused refused = by-the-part ∙ rw (ne-eqb x 0 refused)
-
-          pub load-zero : x ≡ 0 → (stored : List ℕ) → stored ≡ fieldsOf p → loadRow ok row p out fields ≡ ((x, after), stored)
-          load-zero done stored is = by-the-part ∙ rw (done, is)
+        pub load-done : x ≡ 0 → (stored : List ℕ) → stored ≡ fieldsOf p → loadRow ok row p out fields ≡ ((x, after), stored)
+        load-done done stored is = by-the-part ∙ rw (done, is)

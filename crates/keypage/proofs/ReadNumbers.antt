@@ -10,60 +10,68 @@ use lib.ListN.{length, getD}
 use Rattle.octets.specs.BigEndian.{numberAt}
 use Rattle.octets.specs.Lent.{when}
 use Rattle.octets.specs.Tests.{every, zeros, partOf}
-use Rattle.octets.proofs.Lent.{none-applies}
+use Rattle.octets.proofs.Lent.{testAt, none-applies}
 use Rattle.octets.proofs.Tests.{or-left, every-at}
-use Rattle.keypage.specs.Page.{pageCode, keyAt, formatIn, keyLength, keyPart, listIn, pageListOk, pageListCount, pageTests, pageOk, fieldsOf}
+use Rattle.keypage.specs.Page.{pageCode, keyPartAt, formatIn, keyLength, keyPart, listIn, pageListOk, pageListCount, pageTests, pageOk, fieldsOf}
 use Rattle.keypage.specs.KeyPart.{partBroken}
-use Rattle.keypage.specs.Read.{broken, refused, long, readTests, readNumber, readAnswer}
+use Rattle.keypage.specs.Read.{broken, refused, long, pageReadTests, pageReadNumber, pageReadAnswer}
 
 -- the tests of a page's own layout, by what the code has read of it
 pub page-tested : (p : List ℕ) (code size first key : ℕ) (reserved listed : Bool) → code ≡ numberAt 2 p 0 → size ≡ numberAt 2 p 2 → first ≡ getD p 4 0
     → reserved ≡ zeros (partOf p 10 8) → key ≡ keyLength p → listed ≡ pageListOk (listIn p)
-    → every (eqb code pageCode ∷ eqb (length p) (size + 4) ∷ eqb (first / 2 % 16) 0 ∷ reserved ∷ leb (keyAt + key) (length p) ∷ listed ∷ []) ≡ pageOk p
+    → every (eqb code pageCode ∷ eqb (length p) (size + 4) ∷ eqb (first / 2 % 16) 0 ∷ reserved ∷ leb (keyPartAt + key) (length p) ∷ listed ∷ []) ≡ pageOk p
 unfolding pageOk
 page-tested p code size first key reserved listed e1 e2 e3 e4 e5 e6 = rw (e1, e2, e3, e4, e5, e6)
 
 -- ---- each number by the tests that led there
 
 module _ (p : List ℕ) where
-  pub read-two : broken p ≡ true → readNumber p ≡ 2
-  unfolding readNumber
-  read-two e = rw e
+  pub page-two : broken p ≡ true → pageReadNumber p ≡ 2
+  unfolding pageReadNumber
+  page-two e = rw e
 
-  pub read-three : broken p ≡ false → refused p ≡ true → readNumber p ≡ 3
-  unfolding readNumber
-  read-three e f = rw (e, f)
+  pub page-three : broken p ≡ false → refused p ≡ true → pageReadNumber p ≡ 3
+  unfolding pageReadNumber
+  page-three e f = rw (e, f)
 
-  pub read-four : broken p ≡ false → refused p ≡ false → long p ≡ true → readNumber p ≡ 4
-  unfolding readNumber
-  read-four e f g = rw (e, f, g)
+  pub page-four : broken p ≡ false → refused p ≡ false → long p ≡ true → pageReadNumber p ≡ 4
+  unfolding pageReadNumber
+  page-four e f g = rw (e, f, g)
 
-  pub read-zero : broken p ≡ false → refused p ≡ false → long p ≡ false → readNumber p ≡ 0
-  unfolding readNumber
-  read-zero e f g = rw (e, f, g)
+  pub page-zero : broken p ≡ false → refused p ≡ false → long p ≡ false → pageReadNumber p ≡ 0
+  unfolding pageReadNumber
+  page-zero e f g = rw (e, f, g)
 
 -- ---- the number 0: no test applies
 
-pub accepted : (p : List ℕ) → readNumber p ≡ 0 → (broken p ≡ false) × (refused p ≡ false) × (long p ≡ false)
-unfolding readNumber
-accepted p e = (none-applies (readTests p) 0 refl e, none-applies (readTests p) 1 refl e, none-applies (readTests p) 2 refl e)
+pub record ReadPassed (p : List ℕ) : Type 0 where
+  pub whole : broken p ≡ false
+  pub permitted : refused p ≡ false
+  pub short : long p ≡ false
 
-pub list-good : (p : List ℕ) → readNumber p ≡ 0 → pageListOk (listIn p) ≡ true
+pub read-passed : (p : List ℕ) → pageReadNumber p ≡ 0 → ReadPassed p
+unfolding pageReadNumber
+read-passed p e = record { whole = no 0; permitted = no 1; short = no 2 }
+  where
+    no : (i : ℕ) → testAt (pageReadTests p) i ≡ false
+    no i = none-applies (pageReadTests p) i refl e
+
+pub list-good : (p : List ℕ) → pageReadNumber p ≡ 0 → pageListOk (listIn p) ≡ true
 unfolding pageOk
 list-good p e =
-    every-at (pageTests p) 5 (not-false (pageOk p) (or-left (not (pageOk p)) (partBroken (formatIn p) (keyPart p)) (accepted p e .0)))
+    every-at (pageTests p) 5 (not-false (pageOk p) (or-left (not (pageOk p)) (partBroken (formatIn p) (keyPart p)) (read-passed p e .whole)))
 
 -- the count that comes of testing such a page's list
-pub counted : (p l : List ℕ) (n : ℕ) → pageListOk (listIn p) ≡ true → l ≡ listIn p → n ≡ when (pageListOk l) (pageListCount l) 0 → n ≡ pageListCount (listIn p)
-counted p l n ok is e = e ∙ rw (is, ok)
+pub list-counted : (p l : List ℕ) (n : ℕ) → pageListOk (listIn p) ≡ true → l ≡ listIn p → n ≡ when (pageListOk l) (pageListCount l) 0 → n ≡ pageListCount (listIn p)
+list-counted p l n ok is e = e ∙ rw (is, ok)
 
 -- ---- the answer, by the number that the code has
 
-module _ (p fields : List ℕ) (n : ℕ) (is : n ≡ readNumber p) where
-  pub answer-refused : (n ≡ 0 → ⊥) → readAnswer p fields ≡ (n, fields)
-  unfolding readAnswer
-  answer-refused refused = rw (← is, ne-eqb n 0 refused)
+module _ (p fields : List ℕ) (n : ℕ) (is : n ≡ pageReadNumber p) where
+  pub page-refused : (n ≡ 0 → ⊥) → pageReadAnswer p fields ≡ (n, fields)
+  unfolding pageReadAnswer
+  page-refused refused = rw (← is, ne-eqb n 0 refused)
 
-  pub answer-fields : n ≡ 0 → readAnswer p fields ≡ (0, fieldsOf p)
-  unfolding readAnswer
-  answer-fields done = rw (← is, done)
+  pub page-fields : n ≡ 0 → pageReadAnswer p fields ≡ (0, fieldsOf p)
+  unfolding pageReadAnswer
+  page-fields done = rw (← is, done)

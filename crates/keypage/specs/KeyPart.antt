@@ -8,7 +8,7 @@ use lib.Dec.{eqb, leb, ltb}
 use Rattle.octets.specs.BigEndian.{numberAt}
 use Rattle.octets.specs.Lent.{when, isNot}
 use Rattle.octets.specs.Tests.{every, partOf}
-use Rattle.keytable.specs.Row.{nameMax, keySize}
+use Rattle.keytable.specs.Row.{nameMax, rowKeySize}
 
 -- "00h: the key, 32 bytes"; "01h: a reference, 9 bytes or more"; "04h: 0-1 KEK type .., 2-3 identifier length, identifier, wrapped key"
 abbrev pub plainFormat : ℕ
@@ -49,7 +49,7 @@ wrappedTests s = leb identifierAt (length s) ∷ leb 1 (identifierSize s) ∷ le
 
 -- 2: "KEY part of a known format .. identifier length 0"
 unfoldable pub partBroken : ℕ → List ℕ → Bool
-partBroken f s = byFormat f (isNot keySize s) (ltb (length s) referenceMin) (not (every (wrappedTests s))) false
+partBroken f s = byFormat f (isNot rowKeySize s) (ltb (length s) referenceMin) (not (every (wrappedTests s))) false
 
 -- 3: "KEK type not permitted; unknown KEY FORMAT"
 unfoldable pub partRefused : ℕ → List ℕ → Bool

@@ -13,13 +13,13 @@ use Rattle.octets.specs.Lowest.{rises}
 use Rattle.octets.specs.Unique.{Unique}
 use Rattle.octets.specs.Tests.{zeros, partOf}
 use Rattle.octets.specs.BigEndian.{numberAt}
-use Rattle.keytable.specs.Row.{keySize, nameMax, useOf, keyOf}
+use Rattle.keytable.specs.Row.{rowKeySize, nameMax, useOf, rowKey}
 use Rattle.keytable.specs.Table.{tableOk, rowFor, dataRow}
 use Rattle.keywrap.specs.Laws.{WrapsTo}
 use Rattle.descriptors.specs.Laws.{Accepted}
-use Rattle.keypage.specs.Page.{pageCode, pageMax, keyAt, scopeIn, reservedIn, encryptionIn, decryptionIn, algorithmIn, formatIn, keyLength, keyPart, listIn, pageStrict, fieldsOf}
+use Rattle.keypage.specs.Page.{pageCode, pageMax, keyPartAt, scopeIn, reservedIn, encryptionIn, decryptionIn, algorithmIn, formatIn, keyLength, keyPart, listIn, pageStrict, fieldsOf}
 use Rattle.keypage.specs.KeyPart.{plainFormat, referenceFormat, wrappedFormat, referenceMin, kekType, kekUse, identifierSize, identifierOf, wrappedOf, identifierAt}
-use Rattle.keypage.specs.Read.{readTests, readNumber, readAnswer}
+use Rattle.keypage.specs.Read.{pageReadTests, pageReadNumber, pageReadAnswer}
 use Rattle.keypage.specs.Load.{rowNamed, partTests, loadTests, loadAnswer}
 
 -- ---- reading accepts exactly the pages of the layout with permitted values
@@ -30,7 +30,7 @@ pub record Laid (p : List ℕ) (n : ℕ) : Type 0 where
   pub total : length p ≡ numberAt 2 p 2 + 4
   pub reserved-bits : reservedIn p ≡ 0
   pub reserved-bytes : zeros (partOf p 10 8) ≡ true
-  pub key-within : keyAt + keyLength p ≤ length p
+  pub key-within : keyPartAt + keyLength p ≤ length p
   pub list : Accepted false pageStrict (listIn p) n
   pub scope : scopeIn p ≤ 2
   pub encryption : encryptionIn p ≤ 2
@@ -41,7 +41,7 @@ pub record Laid (p : List ℕ) (n : ℕ) : Type 0 where
 
 -- the KEY part of each format
 pub data PartLaid (f : ℕ) (s : List ℕ) : Type 0 where
-  plain : f ≡ plainFormat → length s ≡ keySize → PartLaid f s
+  plain : f ≡ plainFormat → length s ≡ rowKeySize → PartLaid f s
   reference : f ≡ referenceFormat → referenceMin ≤ length s → length s ≤ nameMax → PartLaid f s
   wrapped : f ≡ wrappedFormat → 1 ≤ kekType s → kekType s ≤ 2 → 1 ≤ identifierSize s → identifierSize s ≤ nameMax
       → identifierAt + identifierSize s ≤ length s → PartLaid f s
@@ -52,18 +52,18 @@ pub record Readable (p : List ℕ) : Type 0 where
   pub part : PartLaid (formatIn p) (keyPart p)
 
 abbrev pub ReadsExactly : Type 0
-ReadsExactly = (p fields after : List ℕ) → (readAnswer p fields ≡ (0, after)) ↔ (Readable p × (after ≡ fieldsOf p))
+ReadsExactly = (p fields after : List ℕ) → (pageReadAnswer p fields ≡ (0, after)) ↔ (Readable p × (after ≡ fieldsOf p))
 
 -- ---- loading, for an accepted table, a page that reading accepts, and room
 
 pub record Given (t p out : List ℕ) : Type 0 where
-  pub accepted : tableOk t ≡ true
-  pub readable : readNumber p ≡ 0
-  pub room : keySize ≤ length out
+  pub table-accepted : tableOk t ≡ true
+  pub readable : pageReadNumber p ≡ 0
+  pub key-fits : rowKeySize ≤ length out
 
 -- the load gives k: 0, k is the 32 bytes that the output then begins with, and the page's fields
 pub record Loads (t p out fields k : List ℕ) : Type 0 where
-  pub size : length k ≡ keySize
+  pub size : length k ≡ rowKeySize
   pub answers : loadAnswer t p out fields ≡ ((0, over k out), fieldsOf p)
 
 -- a 00h page gives its key, whatever the table
@@ -74,14 +74,14 @@ LoadsPlain = (t p out fields : List ℕ) → Given t p out → formatIn p ≡ pl
 abbrev pub LoadsReference : Type 0
 LoadsReference =
     (t p out fields k : List ℕ) → Given t p out → formatIn p ≡ referenceFormat
-    → Loads t p out fields k ↔ ((row : List ℕ) × (dataRow t (keyPart p) ≡ some row) × (useOf row ≡ algorithmIn p) × (keyOf row ≡ k))
+    → Loads t p out fields k ↔ ((row : List ℕ) × (dataRow t (keyPart p) ≡ some row) × (useOf row ≡ algorithmIn p) × (rowKey row ≡ k))
 
 -- a 04h page gives k exactly when there is a KEK's row of that whole identifier and wrapping k by it gives the 40 bytes
 abbrev pub LoadsWrapped : Type 0
 LoadsWrapped =
     (t p out fields k : List ℕ) → Given t p out → Bytes t → Bytes p → formatIn p ≡ wrappedFormat
     → Loads t p out fields k
-    ↔ ((row : List ℕ) × (rowFor t (identifierOf (keyPart p)) ≡ some row) × (useOf row ≡ kekUse) × WrapsTo (keyOf row) k (wrappedOf (keyPart p)))
+    ↔ ((row : List ℕ) × (rowFor t (identifierOf (keyPart p)) ≡ some row) × (useOf row ≡ kekUse) × WrapsTo (rowKey row) k (wrappedOf (keyPart p)))
 
 -- "Where no row answers, the load stops there with 6."
 abbrev pub NoRowSix : Type 0
@@ -99,8 +99,8 @@ LoadOtherRows =
 
 -- ---- "The lowest that applies is given, and no other."
 
-abbrev pub ReadTestsRise : Type 0
-ReadTestsRise = (p : List ℕ) → rises (readTests p) ≡ true
+abbrev pub PageReadTestsRise : Type 0
+PageReadTestsRise = (p : List ℕ) → rises (pageReadTests p) ≡ true
 
 abbrev pub PartTestsRise : Type 0
 PartTestsRise = (row : Option (List ℕ)) (algorithm f : ℕ) (s : List ℕ) → rises (partTests row algorithm f s) ≡ true
@@ -110,8 +110,8 @@ LoadTestsRise = (ok : Bool) (row : Option (List ℕ)) (p : List ℕ) (room : ℕ
 
 -- ---- for each input one answer, and one state of what is lent
 
-abbrev pub ReadUnique : Type 0
-ReadUnique = (p fields : List ℕ) → Unique (readAnswer p fields)
+abbrev pub PageReadUnique : Type 0
+PageReadUnique = (p fields : List ℕ) → Unique (pageReadAnswer p fields)
 
 abbrev pub LoadUnique : Type 0
 LoadUnique = (t p out fields : List ℕ) → Unique (loadAnswer t p out fields)

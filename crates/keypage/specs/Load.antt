@@ -7,7 +7,7 @@ use mathlib.Core.Option.{Option, some, none}
 use lib.ListN.{length}
 use lib.Dec.{eqb, ltb}
 use Rattle.octets.specs.Lent.{isNot, Tests, lowest, kept, answer}
-use Rattle.keytable.specs.Row.{keySize, keyOf}
+use Rattle.keytable.specs.Row.{rowKeySize, rowKey}
 use Rattle.keytable.specs.Table.{tableOk, rowFor, dataRow}
 use Rattle.keytable.specs.Calls.{missing, useIn}
 use Rattle.keywrap.specs.Wrap as wrap
@@ -23,7 +23,7 @@ rowNamed t f s = byFormat f none (dataRow t s) (rowFor t (identifierOf s)) none
 -- the key of the row that matched
 abbrev pub keyIn : Option (List ℕ) → List ℕ
 keyIn none = []
-keyIn (some row) = keyOf row
+keyIn (some row) = rowKey row
 
 -- 6 to 9, by the row that matched, the page's algorithm index, and the format and bytes of its KEY part
 abbrev pub partTests : Option (List ℕ) → ℕ → ℕ → List ℕ → Tests
@@ -48,7 +48,7 @@ loadTests ok row p room =
     ∷ (2, broken p)
     ∷ (3, refused p)
     ∷ (4, long p)
-    ∷ (5, ltb room keySize)
+    ∷ (5, ltb room rowKeySize)
     ∷ partTests row (algorithmIn p) (formatIn p) (keyPart p)
 
 unfoldable pub loadNumber : Bool → Option (List ℕ) → List ℕ → ℕ → ℕ

@@ -13,8 +13,8 @@ abbrev pub pageCode : ℕ
 pageCode = 0x0010
 
 -- "from 20 KEY; then a descriptor list to the end"
-abbrev pub keyAt : ℕ
-keyAt = 20
+abbrev pub keyPartAt : ℕ
+keyPartAt = 20
 
 -- "Page or label at most 4,096 bytes"
 abbrev pub pageMax : ℕ
@@ -67,10 +67,10 @@ keyLength p = numberAt 2 p 18
 
 -- the KEY part, and the descriptor list after it
 abbrev pub keyPart : List ℕ → List ℕ
-keyPart p = partOf p keyAt (keyLength p)
+keyPart p = partOf p keyPartAt (keyLength p)
 
 abbrev pub listIn : List ℕ → List ℕ
-listIn p = drop (keyAt + keyLength p) p
+listIn p = drop (keyPartAt + keyLength p) p
 
 -- the list is tested as a page's (not as a label's), and not strictly; and the count of its unreserved descriptors
 abbrev pub pageStrict : Bool
@@ -89,7 +89,7 @@ pageTests p =
     ∷ eqb (length p) (numberAt 2 p 2 + 4)
     ∷ eqb (reservedIn p) 0
     ∷ zeros (partOf p 10 8)
-    ∷ leb (keyAt + keyLength p) (length p)
+    ∷ leb (keyPartAt + keyLength p) (length p)
     ∷ pageListOk (listIn p)
     ∷ []
 

@@ -18,12 +18,12 @@ refused p = not (fieldsOk p) || partRefused (formatIn p) (keyPart p)
 abbrev pub long : List ℕ → Bool
 long p = ltb pageMax (length p) || partLong (formatIn p) (keyPart p)
 
-abbrev pub readTests : List ℕ → Tests
-readTests p = (2, broken p) ∷ (3, refused p) ∷ (4, long p) ∷ []
+abbrev pub pageReadTests : List ℕ → Tests
+pageReadTests p = (2, broken p) ∷ (3, refused p) ∷ (4, long p) ∷ []
 
-unfoldable pub readNumber : List ℕ → ℕ
-readNumber p = lowest (readTests p)
+unfoldable pub pageReadNumber : List ℕ → ℕ
+pageReadNumber p = lowest (pageReadTests p)
 
 -- the fields are lent, and changed by 0 alone
-unfoldable pub readAnswer : List ℕ → List ℕ → ℕ × List ℕ
-readAnswer p fields = (readNumber p, kept (readNumber p) (fieldsOf p) fields)
+unfoldable pub pageReadAnswer : List ℕ → List ℕ → ℕ × List ℕ
+pageReadAnswer p fields = (pageReadNumber p, kept (pageReadNumber p) (fieldsOf p) fields)

@@ -1,8 +1,15 @@
 // The KEY part of a page, by its format: its own tests. Each is lent the part alone.
 use crate::sizes::IDENTIFIER_AT;
+use crate::sizes::IDENTIFIER_LENGTH_AT;
+use crate::sizes::KEK_BY_SAI;
+use crate::sizes::KEK_BY_VALUE;
+use crate::sizes::KEK_TYPE_AT;
 use crate::sizes::KEY_SIZE;
 use crate::sizes::NAME_MAX;
+use crate::sizes::PLAIN_FORMAT;
+use crate::sizes::REFERENCE_FORMAT;
 use crate::sizes::REFERENCE_MIN;
+use crate::sizes::WRAPPED_FORMAT;
 use octets::big_endian::read16;
 ghost use mathlib.Core.Path.{_≡_};
 ghost use mathlib.Core.Bool.{not};
@@ -13,7 +20,7 @@ ghost use Rattle.keypage.specs.KeyPart.{wrappedTests, partBroken, partRe
 fn identifier_ok(s: &[u8]) -> bool
     ensures { λ r. ⌜ r ≡ every (wrappedTests (now (s .entry))) ⌝ }
 {
-    let n = read16(s, 2);
+    let n = read16(s, IDENTIFIER_LENGTH_AT);
     (IDENTIFIER_AT <= s.len()) & (1 <= n) & (IDENTIFIER_AT + n <= s.len())
 }
 
@@ -21,13 +28,13 @@ fn identifier_ok(s: &[u8]) -> bool
 pub(crate) fn part_broken(format: usize, s: &[u8]) -> bool
     ensures { λ r. ⌜ r ≡ partBroken format (now (s .entry)) ⌝ }
 {
-    if format == 0 {
+    if format == PLAIN_FORMAT {
         return s.len() != KEY_SIZE;
     }
-    if format == 1 {
+    if format == REFERENCE_FORMAT {
         return s.len() < REFERENCE_MIN;
     }
-    if format == 4 {
+    if format == WRAPPED_FORMAT {
         return !identifier_ok(s);
     }
     false
@@ -37,15 +44,15 @@ pub(crate) fn part_broken(format: usize, s: &[u8]) -> bool
 pub(crate) fn part_refused(format: usize, s: &[u8]) -> bool
     ensures { λ r. ⌜ r ≡ partRefused format (now (s .entry)) ⌝ }
 {
-    if format == 0 {
+    if format == PLAIN_FORMAT {
         return false;
     }
-    if format == 1 {
+    if format == REFERENCE_FORMAT {
         return false;
     }
-    if format == 4 {
-        let kind = read16(s, 0);
-        return !((kind == 1) | (kind == 2));
+    if format == WRAPPED_FORMAT {
+        let kind = read16(s, KEK_TYPE_AT);
+        return !((kind == KEK_BY_SAI) | (kind == KEK_BY_VALUE));
     }
     true
 }
@@ -54,14 +61,14 @@ pub(crate) fn part_refused(format: usize, s: &[u8]) -> bool
 pub(crate) fn part_long(format: usize, s: &[u8]) -> bool
     ensures { λ r. ⌜ r ≡ partLong format (now (s .entry)) ⌝ }
 {
-    if format == 0 {
+    if format == PLAIN_FORMAT {
         return false;
     }
-    if format == 1 {
+    if format == REFERENCE_FORMAT {
         return NAME_MAX < s.len();
     }
-    if format == 4 {
-        return NAME_MAX < read16(s, 2);
+    if format == WRAPPED_FORMAT {
+        return NAME_MAX < read16(s, IDENTIFIER_LENGTH_AT);
     }
     false
 }

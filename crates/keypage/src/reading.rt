@@ -2,10 +2,35 @@
 use crate::parts::part_broken;
 use crate::parts::part_long;
 use crate::parts::part_refused;
+use crate::sizes::ALGORITHM_AT;
+use crate::sizes::ALGORITHM_MAX;
+use crate::sizes::BEFORE_LENGTH;
+use crate::sizes::CEEM_AT;
+use crate::sizes::CODE_AT;
+use crate::sizes::DECRYPTION_AT;
+use crate::sizes::DECRYPTION_MAX;
+use crate::sizes::ENCRYPTION_AT;
+use crate::sizes::ENCRYPTION_MAX;
+use crate::sizes::FORMAT_AT;
+use crate::sizes::FOUR_BITS;
+use crate::sizes::FROM_BIT_1;
+use crate::sizes::FROM_BIT_2;
+use crate::sizes::FROM_BIT_3;
+use crate::sizes::FROM_BIT_4;
+use crate::sizes::FROM_BIT_5;
+use crate::sizes::FROM_BIT_6;
 use crate::sizes::KEY_AT;
+use crate::sizes::KEY_LENGTH_AT;
+use crate::sizes::ONE_BIT;
 use crate::sizes::PAGE_CODE;
+use crate::sizes::PAGE_LENGTH_AT;
 use crate::sizes::PAGE_MAX;
 use crate::sizes::PAGE_STRICT;
+use crate::sizes::SCOPE_AT;
+use crate::sizes::SCOPE_MAX;
+use crate::sizes::TWO_BITS;
+use crate::sizes::ZERO_AT;
+use crate::sizes::ZERO_SIZE;
 use descriptors::list::Tested;
 use octets::big_endian::read8;
 use octets::big_endian::read16;
@@ -15,13 +40,16 @@ ghost use mathlib.Core.Path.{_≡_};
 ghost use mathlib.Core.Bool.{true};
 ghost use Rattle.octets.specs.Lent.{when};
 ghost use Rattle.keypage.specs.Page.{keyPart, listIn, pageListOk, pageListCount, pageOk, fieldsOk, fieldsOf};
-ghost use Rattle.keypage.specs.Read.{readNumber, readAnswer};
+ghost use Rattle.keypage.specs.Read.{pageReadNumber, pageReadAnswer};
+
+// The fields that reading and loading store, in the order of the C interface.
+pub const FIELD_COUNT: usize = 14;
 
 // Whether a page's list keeps to the layout, and how many of its descriptors are not reserved.
 fn list_ok(list: &[u8]) -> bool
     ensures { λ r. ⌜ r ≡ pageListOk (now (list .entry)) ⌝ }
 {
-    let Tested::Counted(_) = descriptors::list::test(list, false, PAGE_STRICT) else {
+    let Tested::Counted(_) = descriptors::list::check_list(list, false, PAGE_STRICT) else {
         return false;
     };
     true
@@ -30,7 +58,7 @@ fn list_ok(list: &[u8]) -> bool
 fn list_count(list: &[u8]) -> usize
     ensures { λ r. ⌜ r ≡ when (pageListOk (now (list .entry))) (pageListCount (now (list .entry))) 0 ⌝ }
 {
-    let Tested::Counted(n) = descriptors::list::test(list, false, PAGE_STRICT) else {
+    let Tested::Counted(n) = descriptors::list::check_list(list, false, PAGE_STRICT) else {
         return 0;
     };
     n
@@ -40,26 +68,26 @@ fn list_count(list: &[u8]) -> usize
 pub(crate) fn key_part(p: &[u8]) -> &[u8]
     ensures { λ r. ⌜ now r ≡ keyPart (now (p .entry)) ⌝ }
 {
-    part(p, KEY_AT, read16(p, 18))
+    part(p, KEY_AT, read16(p, KEY_LENGTH_AT))
 }
 
 fn list_in(p: &[u8]) -> &[u8]
     ensures { λ r. ⌜ now r ≡ listIn (now (p .entry)) ⌝ }
 {
-    part(p, KEY_AT + read16(p, 18), p.len())
+    part(p, KEY_AT + read16(p, KEY_LENGTH_AT), p.len())
 }
 
 // Whether the page's own bytes keep to the layout.
 fn page_ok(p: &[u8]) -> bool
     ensures { λ r. ⌜ r ≡ pageOk (now (p .entry)) ⌝ }
 {
-    let reserved = all_zero(part(p, 10, 8));
+    let reserved = all_zero(part(p, ZERO_AT, ZERO_SIZE));
     let listed = list_ok(list_in(p));
-    (read16(p, 0) == PAGE_CODE)
-        & (p.len() == read16(p, 2) + 4)
-        & (read8(p, 4) / 2 % 16 == 0)
+    (read16(p, CODE_AT) == PAGE_CODE)
+        & (p.len() == read16(p, PAGE_LENGTH_AT) + BEFORE_LENGTH)
+        & (read8(p, SCOPE_AT) / FROM_BIT_1 % FOUR_BITS == 0)
         & reserved
-        & (KEY_AT + read16(p, 18) <= p.len())
+        & (KEY_AT + read16(p, KEY_LENGTH_AT) <= p.len())
         & listed
 }
 
@@ -67,19 +95,19 @@ fn page_ok(p: &[u8]) -> bool
 fn fields_ok(p: &[u8]) -> bool
     ensures { λ r. ⌜ r ≡ fieldsOk (now (p .entry)) ⌝ }
 {
-    let algorithm = read8(p, 8);
-    (read8(p, 4) / 32 <= 2)
-        & (read8(p, 6) <= 2)
-        & (read8(p, 7) <= 3)
+    let algorithm = read8(p, ALGORITHM_AT);
+    (read8(p, SCOPE_AT) / FROM_BIT_5 <= SCOPE_MAX)
+        & (read8(p, ENCRYPTION_AT) <= ENCRYPTION_MAX)
+        & (read8(p, DECRYPTION_AT) <= DECRYPTION_MAX)
         & (1 <= algorithm)
-        & (algorithm <= 2)
+        & (algorithm <= ALGORITHM_MAX)
 }
 
 // The page by itself: 0, or 2, 3 or 4.
 pub fn check(p: &[u8]) -> u8
-    ensures { λ r. ⌜ r ≡ readNumber (now (p .entry)) ⌝ }
+    ensures { λ r. ⌜ r ≡ pageReadNumber (now (p .entry)) ⌝ }
 {
-    let format = read8(p, 9);
+    let format = read8(p, FORMAT_AT);
     let s = key_part(p);
     let broken = !page_ok(p) | part_broken(format, s);
     let refused = !fields_ok(p) | part_refused(format, s);
@@ -97,33 +125,33 @@ pub fn check(p: &[u8]) -> u8
 }
 
 // The fields of a page whose list keeps to the layout.
-pub(crate) fn fields_of(p: &[u8]) -> [u64; 14]
+pub(crate) fn fields_of(p: &[u8]) -> [u64; FIELD_COUNT]
     requires { ⌜ pageListOk (listIn (now p)) ≡ true ⌝ }
     ensures { λ r. ⌜ r ≡ fieldsOf (now (p .entry)) ⌝ }
 {
-    let first = read8(p, 4);
-    let second = read8(p, 5);
+    let first = read8(p, SCOPE_AT);
+    let second = read8(p, CEEM_AT);
     [
-        (first / 32) as u64,
-        (first % 2) as u64,
-        (second / 64) as u64,
-        (second / 16 % 4) as u64,
-        (second / 8 % 2) as u64,
-        (second / 4 % 2) as u64,
-        (second / 2 % 2) as u64,
-        (second % 2) as u64,
-        read8(p, 6) as u64,
-        read8(p, 7) as u64,
-        read8(p, 8) as u64,
-        read8(p, 9) as u64,
-        read16(p, 18) as u64,
+        (first / FROM_BIT_5) as u64,
+        (first % ONE_BIT) as u64,
+        (second / FROM_BIT_6) as u64,
+        (second / FROM_BIT_4 % TWO_BITS) as u64,
+        (second / FROM_BIT_3 % ONE_BIT) as u64,
+        (second / FROM_BIT_2 % ONE_BIT) as u64,
+        (second / FROM_BIT_1 % ONE_BIT) as u64,
+        (second % ONE_BIT) as u64,
+        read8(p, ENCRYPTION_AT) as u64,
+        read8(p, DECRYPTION_AT) as u64,
+        read8(p, ALGORITHM_AT) as u64,
+        read8(p, FORMAT_AT) as u64,
+        read16(p, KEY_LENGTH_AT) as u64,
         list_count(list_in(p)) as u64,
     ]
 }
 
 // Reads a page: document 01's number, and after 0 its fields are stored.
-pub fn read(p: &[u8], fields: &mut [u64; 14]) -> u8
-    ensures { λ r. ⌜ readAnswer (now (p .entry)) (now (fields .entry)) ≡ (r, now (fields .exit)) ⌝ }
+pub fn read(p: &[u8], fields: &mut [u64; FIELD_COUNT]) -> u8
+    ensures { λ r. ⌜ pageReadAnswer (now (p .entry)) (now (fields .entry)) ≡ (r, now (fields .exit)) ⌝ }
 {
     let number = check(p);
     if number != 0 {

@@ -7,14 +7,14 @@ ghost use mathlib.Core.Path.{_≡_};
 ghost use mathlib.Core.Bool.{true};
 ghost use Prim.Native.Nat.{_≤_};
 ghost use lib.ListN.{length};
-ghost use Rattle.keytable.specs.Row.{keySize};
+ghost use Rattle.keytable.specs.Row.{rowKeySize};
 ghost use Rattle.keytable.specs.Table.{tableOk, dataRow};
 ghost use Rattle.keypage.specs.KeyPart.{referenceFormat};
 ghost use Rattle.keypage.specs.Load.{partAnswer};
 
 // A reference, matched whole as a name: the row's key.
 pub(crate) fn load_reference(table: &[u8], algorithm: usize, s: &[u8], out: &mut [u8]) -> u8
-    requires { ⌜ (tableOk (now table) ≡ true) × (keySize ≤ length (now out)) ⌝ }
+    requires { ⌜ (tableOk (now table) ≡ true) × (rowKeySize ≤ length (now out)) ⌝ }
     ensures { λ x. ⌜ partAnswer (dataRow (now (table .entry)) (now (s .entry))) algorithm referenceFormat (now (s .entry)) (now (out .entry)) ≡ (x, now (out .exit)) ⌝ }
 {
     let Found::At(at) = keytable::find(table, s) else {

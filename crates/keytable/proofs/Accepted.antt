@@ -11,7 +11,7 @@ use lib.ListN.{length, getD, take, drop}
 use lib.Seq.{drop-drop}
 use Rattle.octets.specs.Tests.{all, partOf}
 use Rattle.keytable.specs.Row.{rowSize, nameMax, nameLength, rowOk, rowTests}
-use Rattle.keytable.specs.Table.{headSize, rowPlace, headOk, headTests, tableOk, tableTests, rows, rowsOf, rowCount, distinct}
+use Rattle.keytable.specs.Table.{tableHeadSize, rowPlace, headOk, headTests, tableOk, tableTests, rows, rowsOf, rowCount, distinct}
 use Rattle.octets.proofs.Tests.{all-stop, all-turn, all-end, every-at}
 
 -- ---- the header
@@ -44,7 +44,7 @@ length-rows (suc n) s = ap suc (length-rows n (drop rowSize s))
 -- a table has as many rows as its header says
 pub length-rowsOf : (t : List ℕ) → length (rowsOf t) ≡ rowCount t
 unfolding rowsOf
-length-rowsOf t = length-rows (rowCount t) (drop headSize t)
+length-rowsOf t = length-rows (rowCount t) (drop tableHeadSize t)
 
 rows-at : (n i : ℕ) (s : List ℕ) → i < n → getD (rows n s) i [] ≡ take rowSize (drop (rowSize * i) s)
 unfolding rows
@@ -63,7 +63,7 @@ rowsOf-done t i h = simp length-rowsOf h
 -- row i of a table is its part from place 8 + 72 i
 pub rowsOf-at : (t : List ℕ) (i : ℕ) → i < rowCount t → getD (rowsOf t) i [] ≡ partOf t (rowPlace i) rowSize
 unfolding rowsOf
-rowsOf-at t i h = rows-at (rowCount t) i (drop headSize t) h ∙ rw drop-drop
+rowsOf-at t i h = rows-at (rowCount t) i (drop tableHeadSize t) h ∙ rw drop-drop
 
 -- ---- an accepted row
 

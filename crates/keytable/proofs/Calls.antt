@@ -14,7 +14,7 @@ use Rattle.keytable.specs.declared.Table.the-variants.{Rows, Broken}
 use Rattle.octets.specs.Tests.{all}
 use Rattle.keytable.specs.Row.{rowOk, nameMax, useOf}
 use Rattle.keytable.specs.Table.{headOk, tableOk, tableTests, rowCount, rowsOf, distinct}
-use Rattle.keytable.specs.Calls.{Answer, tableNumber, tableSays, tableAnswer, useNumber, useAnswer}
+use Rattle.keytable.specs.Calls.{tableNumber, tableSays, tableAnswer, useNumber, useAnswer}
 use Rattle.octets.proofs.Tests.{every-not}
 
 -- ---- the check
@@ -30,7 +30,7 @@ table-accepted t h a d = rw (h, a, d)
 -- what each case of the check's answer tells of the table
 pub rows-accepted : (t : List ℕ) (a : Table) (r : ℕ) → tableSays a ≡ tableAnswer t → a ≡ Rows r → tableOk t ≡ true
 unfolding tableNumber tableAnswer
-rows-accepted t a r e is = go (tableOk t) (ap (λ (x : Answer). x .0) (sym (ap tableSays is) ∙ e))
+rows-accepted t a r e is = go (tableOk t) (ap (λ (x : ℕ × List ℕ). x .0) (sym (ap tableSays is) ∙ e))
   where
     go : (ok : Bool) → 0 ≡ lowest ((1, not ok) ∷ []) → ok ≡ true
     go true h = refl
@@ -38,14 +38,14 @@ rows-accepted t a r e is = go (tableOk t) (ap (λ (x : Answer). x .0) (sym (ap t
 
 pub broken-refused : (t : List ℕ) (a : Table) → tableSays a ≡ tableAnswer t → a ≡ Broken → tableOk t ≡ false
 unfolding tableNumber tableAnswer
-broken-refused t a e is = go (tableOk t) (ap (λ (x : Answer). x .0) (sym (ap tableSays is) ∙ e))
+broken-refused t a e is = go (tableOk t) (ap (λ (x : ℕ × List ℕ). x .0) (sym (ap tableSays is) ∙ e))
   where
     go : (ok : Bool) → 1 ≡ lowest ((1, not ok) ∷ []) → ok ≡ false
     go true h = absurd (omega arith)
     go false h = refl
 
 -- the case that an answer tells of
-abbrev pub tableIn : Answer → Table
+abbrev pub tableIn : (ℕ × List ℕ) → Table
 tableIn a = case-of (a .1)
   where
     case-of : List ℕ → Table

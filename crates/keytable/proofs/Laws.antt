@@ -10,14 +10,14 @@ use borrow.Author.Tests.{ne-eqb}
 use lib.ListN.{length}
 use Rattle.octets.proofs.Unique.{unique, unique-by}
 use Rattle.octets.specs.Tests.{all}
-use Rattle.keytable.specs.Row.{rowSize, nameMax, nameAt, keyAt, keySize, nameLength, nameOf, useOf, placedKey, named, rowOk}
+use Rattle.keytable.specs.Row.{rowSize, nameMax, rowNameAt, rowKeyAt, rowKeySize, nameLength, nameOf, useOf, placedKey, named, rowOk}
 use Rattle.keytable.specs.Table.{rowPlace, headOk, tableOk, rows, rowsOf, rowCount, distinct, holders, rowFor, rowAt, placedRow}
 use Rattle.keytable.specs.Calls.{tableNumber, tableSays, tableAnswer, findUse}
 use Rattle.keytable.specs.Find.{foundSays, placeOf, foundAnswer, rowFound}
 use Rattle.keytable.specs.declared.Found.{Found}
 use Rattle.keytable.specs.declared.Found.the-variants.{At, Nothing, Broken}
 use Rattle.keytable.specs.Laws.{NamedWhole, OtherLength, OneRow, AtMostOne, FindsRow, FoundRow, FindsExactly, ElseNothing, FindsBroken, RowForGood, OtherRows}
-use Rattle.keytable.specs.Laws.{HoldersRow, EmptyTable, CheckTestsRise, UseTestsRise, CheckUnique, FindUnique, FindUseUnique, RowAtUnique, UseAtUnique, KeyAtUnique}
+use Rattle.keytable.specs.Laws.{HoldersRow, EmptyTable, CheckTestsRise, UseTestsRise, TableCheckUnique, FindUnique, FindUseUnique, RowAtUnique, UseAtUnique, KeyAtUnique}
 use Rattle.octets.proofs.Tests.{all-at, length-part, part-short}
 use Rattle.keytable.proofs.Accepted.{head-total, accepted-head, accepted-rows, accepted-distinct, length-rowsOf, rowsOf-at, name-short}
 use Rattle.keytable.proofs.Lookup.{named-whole, named-own, distinct-one, distinct-holders, asList, asList-injective, lookup-one, placeOf-row, placeOf-else, placeOf-broken, broken-head}
@@ -63,7 +63,7 @@ rowFor-good t name row ok e =
       size = size;
       ok = ap rowOk (sym (one .is)) ∙ all-at rowOk (rowsOf t) (one .number) [] (accepted-rows t ok) (one .below);
       name-is = named-whole name row (one .has);
-      key-size = length-part row keyAt keySize (omega arith);
+      key-size = length-part row rowKeyAt rowKeySize (omega arith);
     }
 
 module _ (t name : List ℕ) (ok : tableOk t ≡ true) where
@@ -75,7 +75,7 @@ module _ (t name : List ℕ) (ok : tableOk t ≡ true) where
       go none e = refl
       go (some row) e =
           let good = rowFor-good t name row ok e in
-          absurd (omega (arith, long, name-short row (good .ok), ap length (good .name-is), part-short row nameAt (nameLength row)))
+          absurd (omega (arith, long, name-short row (good .ok), ap length (good .name-is), part-short row rowNameAt (nameLength row)))
 
   found : (p : ℕ) → placeOf t name ≡ At p → (rowFor t name ≡ some (rowAt t p)) × (p + rowSize ≤ length t)
   found = placeOf-row t name (accepted-head t ok)
@@ -147,8 +147,8 @@ empty-table = refl
 
 -- ---- one answer
 
-pub check-unique : CheckUnique
-check-unique t = unique-by tableSays tableIn tableIn-says (tableAnswer t)
+pub table-check-unique : TableCheckUnique
+table-check-unique t = unique-by tableSays tableIn tableIn-says (tableAnswer t)
 
 pub find-unique : FindUnique
 find-unique t name = unique-by foundSays foundIn foundIn-says (foundAnswer t name)

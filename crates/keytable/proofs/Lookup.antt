@@ -17,8 +17,8 @@ use Rattle.octets.specs.Lent.{when}
 use Rattle.octets.proofs.Tests.{and-left, and-right}
 use Rattle.octets.proofs.Same.{same-equal, same-refl}
 use Rattle.octets.specs.Tests.{all, partOf}
-use Rattle.keytable.specs.Row.{rowSize, nameMax, nameAt, nameLength, nameOf, named}
-use Rattle.keytable.specs.Table.{headSize, rowPlace, headOk, rows, rowsOf, rowCount, absent, distinct, holders, lookup, rowSizeAt, rowAt}
+use Rattle.keytable.specs.Row.{rowSize, nameMax, rowNameAt, nameLength, nameOf, named}
+use Rattle.keytable.specs.Table.{tableHeadSize, rowPlace, headOk, rows, rowsOf, rowCount, absent, distinct, holders, lookup, rowSizeAt, rowAt}
 use Rattle.keytable.specs.Find.{placeFrom, placeOf}
 use Rattle.keytable.specs.declared.Found.the-variants.{At, Nothing, Broken}
 use Rattle.octets.proofs.Tests.{all-at, length-part}
@@ -30,13 +30,13 @@ use Rattle.keytable.proofs.Accepted.{head-total, rowsOf-more, rowsOf-do
 pub named-whole : (name row : List ℕ) → named name row ≡ true → nameOf row ≡ name
 unfolding named
 named-whole name row e =
-    let size : nameLength row ≡ length name = eqb-true _ _ (and-left (eqb (nameLength row) (length name)) (same (partOf row nameAt (length name)) name) e) in
-    ap (partOf row nameAt) size ∙ same-equal _ _ (and-right (eqb (nameLength row) (length name)) (same (partOf row nameAt (length name)) name) e)
+    let size : nameLength row ≡ length name = eqb-true _ _ (and-left (eqb (nameLength row) (length name)) (same (partOf row rowNameAt (length name)) name) e) in
+    ap (partOf row rowNameAt) size ∙ same-equal _ _ (and-right (eqb (nameLength row) (length name)) (same (partOf row rowNameAt (length name)) name) e)
 
-pub named-own : (row : List ℕ) → nameAt + nameLength row ≤ length row → named (nameOf row) row ≡ true
+pub named-own : (row : List ℕ) → rowNameAt + nameLength row ≤ length row → named (nameOf row) row ≡ true
 unfolding named
 named-own row h =
-    rw (length-part row nameAt (nameLength row) h, eq-eqb (nameLength row) (nameLength row) refl) (same-refl (nameOf row))
+    rw (length-part row rowNameAt (nameLength row) h, eq-eqb (nameLength row) (nameLength row) refl) (same-refl (nameOf row))
 
 -- ---- placeFrom
 
@@ -198,19 +198,19 @@ pub broken-head : (t name : List ℕ) → placeOf t name ≡ Broken → headOk t
 unfolding placeOf
 broken-head t name e = go (headOk t) (leb (length name) nameMax) e
   where
-    go : (head short : Bool) → when head (when short (placeFrom headSize name (rowsOf t)) Nothing) Broken ≡ Broken → head ≡ false
-    go true true h = absurd (place-whole headSize name (rowsOf t) h)
+    go : (head short : Bool) → when head (when short (placeFrom tableHeadSize name (rowsOf t)) Nothing) Broken ≡ Broken → head ≡ false
+    go true true h = absurd (place-whole tableHeadSize name (rowsOf t) h)
     go true false h = let z : _≡_ {A = ℕ} 0 1 = cc in absurd (omega arith)
     go false short h = refl
 
 -- a header that keeps to the layout, and a name within its maximum
 module _ (t name : List ℕ) (head : headOk t ≡ true) (short : length name ≤ nameMax) where
-  pub placeOf-looked : placeOf t name ≡ placeFrom headSize name (rowsOf t)
+  pub placeOf-looked : placeOf t name ≡ placeFrom tableHeadSize name (rowsOf t)
   unfolding placeOf
   placeOf-looked = rw (head, le-leb (length name) nameMax short)
 
   placeOf-nothing : placeOf t name ≡ Nothing → lookup name (rowsOf t) ≡ none
-  placeOf-nothing e = place-none headSize name (rowsOf t) (sym placeOf-looked ∙ e)
+  placeOf-nothing e = place-none tableHeadSize name (rowsOf t) (sym placeOf-looked ∙ e)
 
 module _ (t name : List ℕ) (head : headOk t ≡ true) where
   -- a place is given to a name within its maximum alone
@@ -221,7 +221,7 @@ module _ (t name : List ℕ) (head : headOk t ≡ true) where
       go : (b : Bool) → leb (length name) nameMax ≡ b → (lookup name (rowsOf t) ≡ some (rowAt t p)) × (p + rowSize ≤ length t)
       go true fits =
           let short = leb-true (length name) nameMax fits in
-          let (is, within) = place-row (rowCount t) headSize p t name (sym (placeOf-looked t name head short) ∙ e) in
+          let (is, within) = place-row (rowCount t) tableHeadSize p t name (sym (placeOf-looked t name head short) ∙ e) in
           let inside : p + rowSize ≤ length t = omega (arith, head-total t head) in
           (is ∙ ap some (sym (rowAt-within t p inside)), inside)
       go false past =

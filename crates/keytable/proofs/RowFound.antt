@@ -11,8 +11,8 @@ use lib.ListN.{length, take, drop}
 use Rattle.octets.specs.Bytes.{Bytes}
 use Rattle.octets.specs.Lent.{when}
 use Rattle.octets.proofs.Bytes.{bytes-take, bytes-drop}
-use Rattle.keytable.specs.Row.{rowSize, keyAt, keySize, keyOf, named}
-use Rattle.keytable.specs.Table.{headSize, rowCount, rows, rowsOf, lookup, tableOk, rowFor, rowAt}
+use Rattle.keytable.specs.Row.{rowSize, rowKeyAt, rowKeySize, rowKey, named}
+use Rattle.keytable.specs.Table.{tableHeadSize, rowCount, rows, rowsOf, lookup, tableOk, rowFor, rowAt}
 use Rattle.keytable.specs.Find.{foundSays, foundAnswer, rowFound}
 use Rattle.keytable.specs.declared.Found.{Found}
 use Rattle.keytable.specs.declared.Found.the-variants.{At, Nothing, Broken}
@@ -32,7 +32,7 @@ module _ (t name : List ℕ) (f : Found) (ok : tableOk t ≡ true) (e : foundSay
   pub the-row : (p : ℕ) → f ≡ At p → rowFor t name ≡ some (rowAt t p)
   the-row p is = finds-row t name f ok e ∙ ap (rowFound t) is
 
-  pub row-key : (p : ℕ) → f ≡ At p → length (keyOf (rowAt t p)) ≡ keySize
+  pub row-key : (p : ℕ) → f ≡ At p → length (rowKey (rowAt t p)) ≡ rowKeySize
   row-key p is = rowFor-good t name (rowAt t p) ok (the-row p is) .key-size
 
 lookup-bytes : (n : ℕ) (s name row : List ℕ) → Bytes s → lookup name (rows n s) ≡ some row → Bytes row
@@ -46,7 +46,7 @@ lookup-bytes (suc n) s name row bytes e =
     go true ih h = let first : take rowSize s ≡ row = cc in rw first at (bytes-take rowSize bytes)
     go false ih h = ih h
 
-pub row-key-bytes : (t name row : List ℕ) → Bytes t → rowFor t name ≡ some row → Bytes (keyOf row)
+pub row-key-bytes : (t name row : List ℕ) → Bytes t → rowFor t name ≡ some row → Bytes (rowKey row)
 unfolding rowsOf
 row-key-bytes t name row bytes e =
-    bytes-take keySize (bytes-drop keyAt (lookup-bytes (rowCount t) (drop headSize t) name row (bytes-drop headSize bytes) e))
+    bytes-take rowKeySize (bytes-drop rowKeyAt (lookup-bytes (rowCount t) (drop tableHeadSize t) name row (bytes-drop tableHeadSize bytes) e))

@@ -12,10 +12,6 @@ use Rattle.keytable.specs.Table.{rowCount, tableOk, rowFor}
 use Rattle.keytable.specs.declared.Table.{Table}
 use Rattle.keytable.specs.declared.Table.the-variants.{Rows, Broken}
 
--- a number, and the values that come with it
-abbrev pub Answer : Type 0
-Answer = ℕ × List ℕ
-
 -- ---- the check: 1, "the table breaks its layout, or has more than 64 rows"
 
 abbrev pub checkTests : List ℕ → Tests
@@ -24,11 +20,11 @@ checkTests t = (1, not (tableOk t)) ∷ []
 unfoldable pub tableNumber : List ℕ → ℕ
 tableNumber t = lowest (checkTests t)
 
-abbrev pub tableSays : Table → Answer
+abbrev pub tableSays : Table → ℕ × List ℕ
 tableSays (Rows r) = (0, r ∷ [])
 tableSays Broken = (1, [])
 
-unfoldable pub tableAnswer : List ℕ → Answer
+unfoldable pub tableAnswer : List ℕ → ℕ × List ℕ
 tableAnswer t = (tableNumber t, when (tableOk t) (rowCount t ∷ []) [])
 
 -- ---- the lookup as a call of its own: by whether the table is accepted and the row that matched; the use is lent, and changed by 0 alone

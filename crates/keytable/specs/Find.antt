@@ -9,7 +9,7 @@ use lib.ListN.{length}
 use lib.Dec.{leb}
 use Rattle.octets.specs.Lent.{when}
 use Rattle.keytable.specs.Row.{nameMax, rowSize, named}
-use Rattle.keytable.specs.Table.{headSize, headOk, rowsOf, rowAt}
+use Rattle.keytable.specs.Table.{tableHeadSize, headOk, rowsOf, rowAt}
 use Rattle.keytable.specs.declared.Found.{Found}
 use Rattle.keytable.specs.declared.Found.the-variants.{At, Nothing, Broken}
 
@@ -26,7 +26,7 @@ placeFrom i name (row ∷ rest) = when (named name row) (At i) (placeFrom (i + r
 
 -- a name over its maximum has no row
 unfoldable pub placeOf : List ℕ → List ℕ → Found
-placeOf t name = when (headOk t) (when (leb (length name) nameMax) (placeFrom headSize name (rowsOf t)) Nothing) Broken
+placeOf t name = when (headOk t) (when (leb (length name) nameMax) (placeFrom tableHeadSize name (rowsOf t)) Nothing) Broken
 
 abbrev pub foundAnswer : List ℕ → List ℕ → ℕ × List ℕ
 foundAnswer t name = foundSays (placeOf t name)

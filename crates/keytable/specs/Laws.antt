@@ -10,7 +10,7 @@ use lib.ListN.{length, getD}
 use Rattle.octets.specs.Lowest.{rises}
 use Rattle.octets.specs.Places.{Placed}
 use Rattle.octets.specs.Unique.{UniqueBy, Unique}
-use Rattle.keytable.specs.Row.{rowSize, keySize, nameLength, nameOf, useOf, keyOf, rowOk, named, placedKey}
+use Rattle.keytable.specs.Row.{rowSize, rowKeySize, nameLength, nameOf, useOf, rowKey, rowOk, named, placedKey}
 use Rattle.keytable.specs.Table.{rowCount, headOk, rowsOf, tableOk, holders, rowFor, rowAt, placedRow}
 use Rattle.keytable.specs.Calls.{checkTests, tableSays, tableAnswer, useTests, findUse}
 use Rattle.keytable.specs.Find.{foundSays, foundAnswer, rowFound}
@@ -64,7 +64,7 @@ pub record GoodRow (name row : List ℕ) : Type 0 where
   pub size : length row ≡ rowSize
   pub ok : rowOk row ≡ true
   pub name-is : nameOf row ≡ name
-  pub key-size : length (keyOf row) ≡ keySize
+  pub key-size : length (rowKey row) ≡ rowKeySize
 
 abbrev pub RowForGood : Type 0
 RowForGood = (t name row : List ℕ) → tableOk t ≡ true → rowFor t name ≡ some row → GoodRow name row
@@ -100,8 +100,8 @@ EmptyTable = tableAnswer emptyTable ≡ (0, 0 ∷ [])
 
 -- ---- for each input one answer, and one state of what is lent
 
-abbrev pub CheckUnique : Type 0
-CheckUnique = (t : List ℕ) → UniqueBy tableSays (tableAnswer t)
+abbrev pub TableCheckUnique : Type 0
+TableCheckUnique = (t : List ℕ) → UniqueBy tableSays (tableAnswer t)
 
 abbrev pub FindUnique : Type 0
 FindUnique = (t name : List ℕ) → UniqueBy foundSays (foundAnswer t name)

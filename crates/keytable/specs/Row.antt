@@ -16,14 +16,14 @@ nameMax = 32
 abbrev pub useMax : ℕ
 useMax = 3
 
-abbrev pub nameAt : ℕ
-nameAt = 8
+abbrev pub rowNameAt : ℕ
+rowNameAt = 8
 
-abbrev pub keyAt : ℕ
-keyAt = 40
+abbrev pub rowKeyAt : ℕ
+rowKeyAt = 40
 
-abbrev pub keySize : ℕ
-keySize = 32
+abbrev pub rowKeySize : ℕ
+rowKeySize = 32
 
 abbrev pub rowSize : ℕ
 rowSize = 72
@@ -35,14 +35,14 @@ abbrev pub useOf : List ℕ → ℕ
 useOf row = getD row 1 0
 
 abbrev pub nameOf : List ℕ → List ℕ
-nameOf row = partOf row nameAt (nameLength row)
+nameOf row = partOf row rowNameAt (nameLength row)
 
-abbrev pub keyOf : List ℕ → List ℕ
-keyOf row = partOf row keyAt keySize
+abbrev pub rowKey : List ℕ → List ℕ
+rowKey row = partOf row rowKeyAt rowKeySize
 
 -- as the part of the row that it is
 abbrev pub placedKey : Placed → Placed
-placedKey row = partIn row keyAt keySize
+placedKey row = partIn row rowKeyAt rowKeySize
 
 abbrev pub rowTests : List ℕ → List Bool
 rowTests row =
@@ -51,7 +51,7 @@ rowTests row =
     ∷ leb 1 (useOf row)
     ∷ leb (useOf row) useMax
     ∷ zeros (partOf row 2 6)
-    ∷ zeros (partOf row (nameAt + nameLength row) (nameMax - nameLength row))
+    ∷ zeros (partOf row (rowNameAt + nameLength row) (nameMax - nameLength row))
     ∷ []
 
 unfoldable pub rowOk : List ℕ → Bool
@@ -59,4 +59,4 @@ rowOk row = every (rowTests row)
 
 -- "the same name, meaning the same length and the same bytes": the row has this name
 unfoldable pub named : List ℕ → List ℕ → Bool
-named name row = eqb (nameLength row) (length name) && same (partOf row nameAt (length name)) name
+named name row = eqb (nameLength row) (length name) && same (partOf row rowNameAt (length name)) name

@@ -16,8 +16,8 @@ use Rattle.keytable.specs.Row.{rowSize, nameOf, rowOk, named}
 abbrev pub tableFormat : ℕ
 tableFormat = 1
 
-abbrev pub headSize : ℕ
-headSize = 8
+abbrev pub tableHeadSize : ℕ
+tableHeadSize = 8
 
 -- "Maxima": "Table 0 to 64 rows"
 abbrev pub rowMax : ℕ
@@ -28,13 +28,13 @@ rowCount t = numberAt 2 t 2
 
 -- the place of row number i, from 0
 abbrev pub rowPlace : ℕ → ℕ
-rowPlace i = headSize + rowSize * i
+rowPlace i = tableHeadSize + rowSize * i
 
 abbrev pub headTests : List ℕ → List Bool
 headTests t =
     eqb (numberAt 2 t 0) tableFormat
     ∷ leb (rowCount t) rowMax
-    ∷ eqb (numberAt 2 t 4) headSize
+    ∷ eqb (numberAt 2 t 4) tableHeadSize
     ∷ eqb (numberAt 2 t 6) rowSize
     ∷ eqb (length t) (rowPlace (rowCount t))
     ∷ []
@@ -48,7 +48,7 @@ rows zero s = []
 rows (suc n) s = take rowSize s ∷ rows n (drop rowSize s)
 
 unfoldable pub rowsOf : List ℕ → List (List ℕ)
-rowsOf t = rows (rowCount t) (drop headSize t)
+rowsOf t = rows (rowCount t) (drop tableHeadSize t)
 
 -- no row has this name
 abbrev pub absent : List ℕ → List (List ℕ) → Bool

@@ -9,13 +9,18 @@ use octets::strings::part_in;
 use rows::find_from;
 use rows::names_differ;
 use rows::rows_ok;
+use sizes::FIRST_ROW_AT;
+use sizes::FORMAT_AT;
 use sizes::HEAD_SIZE;
 use sizes::KEY_AT;
 use sizes::KEY_SIZE;
 use sizes::NAME_MAX;
+use sizes::ROW_COUNT_AT;
+use sizes::ROW_LENGTH_AT;
 use sizes::ROW_MAX;
 use sizes::ROW_SIZE;
 use sizes::TABLE_FORMAT;
+use sizes::USE_AT;
 ghost use mathlib.Core.Path.{_≡_};
 ghost use Rattle.octets.specs.Places.{placed};
 ghost use Rattle.keytable.specs.Row.{useOf, placedKey};
@@ -41,11 +46,11 @@ pub enum Found {
 fn head_ok(t: &[u8]) -> bool
     ensures { λ ok. ⌜ ok ≡ headOk (now (t .entry)) ⌝ }
 {
-    let r = read16(t, 2);
-    (read16(t, 0) == TABLE_FORMAT)
+    let r = read16(t, ROW_COUNT_AT);
+    (read16(t, FORMAT_AT) == TABLE_FORMAT)
         & (r <= ROW_MAX)
-        & (read16(t, 4) == HEAD_SIZE)
-        & (read16(t, 6) == ROW_SIZE)
+        & (read16(t, FIRST_ROW_AT) == HEAD_SIZE)
+        & (read16(t, ROW_LENGTH_AT) == ROW_SIZE)
         & (t.len() == HEAD_SIZE + ROW_SIZE * r)
 }
 
@@ -56,7 +61,7 @@ pub fn check(t: &[u8]) -> Table
     if !head_ok(t) {
         return Table::Broken;
     }
-    let r = read16(t, 2);
+    let r = read16(t, ROW_COUNT_AT);
     if !rows_ok(t, r) {
         return Table::Broken;
     }
@@ -77,7 +82,7 @@ pub fn find(t: &[u8], name: &[u8]) -> Found
     if name.len() > NAME_MAX {
         return Found::Nothing;
     }
-    find_from(t, read16(t, 2), 0, name)
+    find_from(t, read16(t, ROW_COUNT_AT), 0, name)
 }
 
 // How long the row at a place is: a row's size, or none where it does not lie in the table.
@@ -104,7 +109,7 @@ pub fn row_at(t: &[u8], at: usize) -> &[u8]
 pub fn use_at(t: &[u8], at: usize) -> u8
     ensures { λ u. ⌜ u ≡ useOf (rowAt (now (t .entry)) at) ⌝ }
 {
-    read8(row_at(t, at), 1) as u8
+    read8(row_at(t, at), USE_AT) as u8
 }
 
 pub fn key_at(t: &[u8], at: usize) -> &[u8]

@@ -1,11 +1,30 @@
-// The numbers of document 01's key table that have a name.
+// The numbers of document 01's key table that have a name. The header: where its words stand, and what they hold.
+pub(crate) const FORMAT_AT: usize = 0;
+
 pub(crate) const TABLE_FORMAT: usize = 1;
+
+pub(crate) const ROW_COUNT_AT: usize = 2;
+
+pub(crate) const ROW_MAX: usize = 64;
+
+pub(crate) const FIRST_ROW_AT: usize = 4;
 
 pub(crate) const HEAD_SIZE: usize = 8;
 
+pub(crate) const ROW_LENGTH_AT: usize = 6;
+
 pub(crate) const ROW_SIZE: usize = 72;
 
-pub(crate) const ROW_MAX: usize = 64;
+// A row: where its parts stand, and their sizes and maxima.
+pub(crate) const NAME_LENGTH_AT: usize = 0;
+
+pub(crate) const USE_AT: usize = 1;
+
+pub(crate) const USE_MAX: usize = 3;
+
+pub(crate) const ZERO_AT: usize = 2;
+
+pub(crate) const ZERO_SIZE: usize = 6;
 
 pub(crate) const NAME_AT: usize = 8;
 
@@ -14,5 +33,3 @@ pub(crate) const NAME_MAX: usize = 32;
 pub(crate) const KEY_AT: usize = 40;
 
 pub(crate) const KEY_SIZE: usize = 32;
-
-pub(crate) const USE_MAX: usize = 3;

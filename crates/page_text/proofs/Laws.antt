@@ -13,7 +13,7 @@ use Rattle.descriptors.specs.Parse.{split}
 use Rattle.descriptors.specs.Tested.{risesFrom, splitOk, unreserved}
 use Rattle.keypage.specs.Page.{pageOk, fieldsOk}
 use Rattle.keypage.specs.KeyPart.{partBroken, partRefused, partLong}
-use Rattle.keypage.specs.Read.{readNumber}
+use Rattle.keypage.specs.Read.{pageReadNumber}
 use Rattle.page_text.specs.declared.Text.{Text}
 use Rattle.page_text.specs.Listing.{fieldLines, listingNumber, listing, listingMax, listingAnswer}
 use Rattle.page_text.specs.Laws.{LongRefused, EmptyRefused, ExampleListed, TextRoom, TextUnique}
@@ -24,11 +24,11 @@ unfolding decimal digitsWithin
 long-refused p long = listing-long p long
 
 pub empty-refused : EmptyRefused
-unfolding listing listingNumber readNumber pageOk partBroken decimal digitsWithin
+unfolding listing listingNumber pageReadNumber pageOk partBroken decimal digitsWithin
 empty-refused = refl
 
 pub example-listed : ExampleListed
-unfolding listing listingNumber fieldLines readNumber pageOk fieldsOk partBroken partRefused partLong splitOk risesFrom unreserved split sizeOf sizeSaid all decimal digitsWithin
+unfolding listing listingNumber fieldLines pageReadNumber pageOk fieldsOk partBroken partRefused partLong splitOk risesFrom unreserved split sizeOf sizeSaid all decimal digitsWithin
 example-listed = refl
 
 pub text-room : TextRoom

@@ -9,7 +9,7 @@ use borrow.Author.Tests.{lt-ltb, le-ltb, ne-eqb}
 use Rattle.wording.specs.Decimal.{decimal}
 use Rattle.wording.proofs.Decimal.{length-decimal64}
 use Rattle.keypage.specs.Page.{pageMax, fieldsOf}
-use Rattle.keypage.specs.Read.{readNumber, readAnswer}
+use Rattle.keypage.specs.Read.{pageReadNumber, pageReadAnswer}
 use Rattle.page_text.specs.Listing.{linesIn, fieldLines, refused, listingNumber, listing, listingMax}
 
 -- ---- which text
@@ -19,9 +19,9 @@ unfolding listing listingNumber
 listing-long p long = rw (lt-ltb pageMax (length p) long)
 
 -- what reading answered
-module _ (p before : List ℕ) (short : length p ≤ pageMax) {after : List ℕ} {n : ℕ} (reads : readAnswer p before ≡ (n, after)) where
-  number : readNumber p ≡ n
-  unfolding readAnswer
+module _ (p before : List ℕ) (short : length p ≤ pageMax) {after : List ℕ} {n : ℕ} (reads : pageReadAnswer p before ≡ (n, after)) where
+  number : pageReadNumber p ≡ n
+  unfolding pageReadAnswer
   number = ap (λ (a : ℕ × List ℕ). a .0) reads
 
   list-number : listingNumber p ≡ n
@@ -33,7 +33,7 @@ module _ (p before : List ℕ) (short : length p ≤ pageMax) {after : List ℕ}
   listing-refused none = rw (list-number, ne-eqb n 0 none)
 
   fields : n ≡ 0 → after ≡ fieldsOf p
-  unfolding readAnswer
+  unfolding pageReadAnswer
   fields done = sym (ap (λ (a : ℕ × List ℕ). a .1) reads) ∙ rw (number, done)
 
   pub listing-fields : n ≡ 0 → listing p ≡ linesIn after

@@ -8,7 +8,7 @@ use Rattle.octets.specs.Lent.{when, over}
 use Rattle.wording.specs.Ascii.{ascii}
 use Rattle.wording.specs.Lines.{line, together}
 use Rattle.keypage.specs.Page.{pageMax, scopeIn, lockIn, encryptionIn, decryptionIn, algorithmIn, formatIn, keyLength, listIn, pageListCount}
-use Rattle.keypage.specs.Read.{readNumber}
+use Rattle.keypage.specs.Read.{pageReadNumber}
 
 abbrev pub linesOf : (scope lock encrypt decrypt algorithm format length descriptors : ℕ) → List ℕ
 linesOf scope lock encrypt decrypt algorithm format length descriptors =
@@ -36,7 +36,7 @@ refused n = line (ascii "refused") n
 
 -- "Its tests are 2, 3 and 4." "One over 4,096 bytes prints `refused 4` with no other test."
 unfoldable pub listingNumber : List ℕ → ℕ
-listingNumber p = when (ltb pageMax (length p)) 4 (readNumber p)
+listingNumber p = when (ltb pageMax (length p)) 4 (pageReadNumber p)
 
 unfoldable pub listing : List ℕ → List ℕ
 listing p = when (eqb (listingNumber p) 0) (fieldLines p) (refused (listingNumber p))

@@ -8,7 +8,7 @@ use native.Mathlib.Omega.{arith}
 use lib.ListN.{length}
 use Rattle.octets.specs.Lent.{lowest, over, answer}
 use Rattle.octets.specs.Tests.{partOf}
-use Rattle.keytable.specs.Row.{keySize}
+use Rattle.keytable.specs.Row.{rowKeySize}
 use Rattle.modes.specs.Calls.{decryptAnswer}
 use Rattle.modes.proofs.Numbers.{decrypt-in-range}
 use Rattle.modes.specs.Modes.{modeOf}
@@ -16,9 +16,9 @@ use Rattle.record.specs.Record.{modeFor, modeIn, countIn, nameSize, layo
 use Rattle.record.specs.Read.{passes}
 use Rattle.record.specs.Seal.{callersMax}
 use Rattle.record.specs.Open.{authenticBy, plaintextBy}
-use Rattle.record.proofs.Numbers.{key-size}
+use Rattle.record.proofs.Lengths.{key-size, name-within, count-within}
 use Rattle.record.proofs.Parts.{length-frontIn, length-ivIn, length-textIn, length-tagIn, permits-textIn}
-use Rattle.record.proofs.Reading.{Accepted, name-short, count-small}
+use Rattle.record.proofs.Reading.{HeaderAccepted}
 
 -- what the tag decided, by the number that was answered
 module _ (right : Bool) (s out after : List ℕ) (x : ℕ) (e : answer (lowest ((9, not right) ∷ [])) s out ≡ (x, after)) where
@@ -38,18 +38,18 @@ module _ (right : Bool) (s out after : List ℕ) (x : ℕ) (e : answer (lowest (
 
 -- decrypting the parts: the tag decides
 pub parts-opened : (key r a out : List ℕ) → layoutOk r ≡ true → passes (nameSize r) (countIn r) ≡ false
-    → length key ≡ keySize → length a ≤ callersMax → countIn r ≤ length out
+    → length key ≡ rowKeySize → length a ≤ callersMax → countIn r ≤ length out
     → decryptAnswer (modeFor r) key (ivIn r) (frontIn r) a (textIn r) (tagIn r) out
     ≡ answer (lowest ((9, not (authenticBy key r a)) ∷ [])) (plaintextBy key r) out
 unfolding authenticBy plaintextBy
 parts-opened key r a out good short key-right aad-short room =
     decrypt-in-range (modeFor r) key (ivIn r) (frontIn r) a (textIn r) (tagIn r) out
     (key-right ∙ sym (key-size (modeIn r))) (length-ivIn r good) (permits-textIn r good) (length-tagIn r good)
-    (omega (arith, length-frontIn r good, name-short r short)) (omega (arith, length-textIn r good, count-small r short)) (omega (arith, length-textIn r good))
+    (omega (arith, length-frontIn r good, name-within (nameSize r) (countIn r) short)) (omega (arith, length-textIn r good, count-within (nameSize r) (countIn r) short)) (omega (arith, length-textIn r good))
 
 -- the same, of parts cut by fields that were read, and by the mode's lengths
-pub fields-opened : (key r a out : List ℕ) (u k n v t : ℕ) → Accepted r u k n → v ≡ modeOf u .ivSize → t ≡ modeOf u .tagSize
-    → length key ≡ keySize → length a ≤ callersMax → n ≤ length out
+pub fields-opened : (key r a out : List ℕ) (u k n v t : ℕ) → HeaderAccepted r u k n → v ≡ modeOf u .ivSize → t ≡ modeOf u .tagSize
+    → length key ≡ rowKeySize → length a ≤ callersMax → n ≤ length out
     → decryptAnswer (modeOf u) key (partOf r (24 + k) v) (partOf r 0 (24 + k)) a (partOf r (24 + k + v) n) (partOf r (24 + k + v + n) t) out
     ≡ answer (lowest ((9, not (authenticBy key r a)) ∷ [])) (plaintextBy key r) out
 unfolding ivIn frontIn textIn tagIn

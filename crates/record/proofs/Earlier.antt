@@ -9,7 +9,7 @@ use Rattle.octets.specs.Bytes.{Bytes}
 use Rattle.octets.specs.Lent.{over, answer}
 use Rattle.octets.proofs.Bytes.{bytes-append}
 use Rattle.octets.proofs.BigEndian.{bytes-be}
-use Rattle.keytable.specs.Row.{useOf, keyOf}
+use Rattle.keytable.specs.Row.{useOf, rowKey}
 use Rattle.keytable.specs.Table.{tableOk, dataRow}
 use Rattle.session.specs.Iv.{fieldSize, ivOf}
 use Rattle.session.specs.Calls.{sessionAfter}
@@ -31,7 +31,7 @@ answers-alike : (n n′ size : ℕ) (result out out′ : List ℕ) → n ≡ n�
     → Alike size out out′ (answer n result out) (answer n′ result out′)
 answers-alike n n′ size result out out′ same-number same-room fits =
     record {
-      number = same-number;
+      one-number = same-number;
       result = λ e.
           ap (take size) (state out n e) ∙ take-over result out size (fits e .0) (fits e .1)
           ∙ sym (ap (take size) (state out′ n′ (also e)) ∙ take-over result out′ size (fits e .0) (room e));
@@ -54,23 +54,23 @@ module _ (t name iv a p : List ℕ) (room : ℕ) (table-bytes : Bytes t) (iv-byt
   record-fits : Fits (sealNumber (tableOk t) (dataRow t name) name iv a (length p) room) (sealedSize (dataRow t name) name (length p)) (recordBy (dataRow t name) name iv a p) room
   record-fits e =
       let h = in-range (tableOk t) name iv a (length p) room (dataRow t name) e in
-      rw (h .has-row) (
-        length-recordOf (useOf (h .row)) (keyOf (h .row)) name iv a p (row-keyed t name (h .row) iv table-bytes iv-bytes (h .accepted) (h .has-row) (h .iv-size)) (h .permitted),
+      rw (h .found-is) (
+        length-recordOf (useOf (h .found-row)) (rowKey (h .found-row)) name iv a p (row-keyed t name (h .found-row) iv table-bytes iv-bytes (h .accepted) (h .found-is) (h .iv-size)) (h .permitted),
         h .room-fits,
       )
 
-pub seal-alike : SealEarlier
+pub seal-earlier : SealEarlier
 unfolding sealRow
-seal-alike t name iv a p out out′ table-bytes iv-bytes same =
+seal-earlier t name iv a p out out′ table-bytes iv-bytes same =
     answers-alike (number (length out)) (number (length out′)) (sealedSize (dataRow t name) name (length p)) (recordBy (dataRow t name) name iv a p) out out′
     (ap number same) same (record-fits t name iv a p (length out) table-bytes iv-bytes)
   where
     number : ℕ → ℕ
     number room = sealNumber (tableOk t) (dataRow t name) name iv a (length p) room
 
-pub next-alike : NextEarlier
+pub next-earlier : NextEarlier
 unfolding sealNextRow
-next-alike s t name a p out out′ table-bytes prefix-bytes same = (
+next-earlier s t name a p out out′ table-bytes prefix-bytes same = (
   answers-alike (number (length out)) (number (length out′)) (sealedSize (dataRow t name) name (length p)) (recordBy (dataRow t name) name (ivOf s) a p) out out′
       (ap number same) same
       (λ e.
@@ -84,9 +84,9 @@ next-alike s t name a p out out′ table-bytes prefix-bytes same = (
 
 -- ---- opening
 
-pub open-alike : OpenEarlier
+pub open-earlier : OpenEarlier
 unfolding openRow
-open-alike t r a out out′ count count′ table-bytes bytes same =
+open-earlier t r a out out′ count count′ table-bytes bytes same =
     answers-alike (number (length out)) (number (length out′)) (countIn r) (plaintextIn (dataRow t (nameIn r)) r) out out′ (ap number same) same fits
   where
     number : ℕ → ℕ
@@ -96,4 +96,4 @@ open-alike t r a out out′ count count′ table-bytes bytes same =
     fits e =
         let (row, has) = open-row (tableOk t) r a (length out) (dataRow t (nameIn r)) e in
         let h = openable (tableOk t) r a (length out) row (rw has at e) in
-        rw has (length-plaintextBy (keyOf row) r (open-keyed t r a row (length out) table-bytes bytes has h) (h .layout), h .fits)
+        rw has (length-plaintextBy (rowKey row) r (open-keyed t r a row (length out) table-bytes bytes has h) (h .layout), h .fits)

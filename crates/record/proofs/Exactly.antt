@@ -7,12 +7,12 @@ use Prim.Native.Nat.{ℕ, _≤_}
 use native.Mathlib.Omega.{arith}
 use lib.ListN.{length}
 use Rattle.octets.specs.Bytes.{Bytes}
-use Rattle.keytable.specs.Row.{useOf, keyOf}
+use Rattle.keytable.specs.Row.{useOf, rowKey}
 use Rattle.modes.specs.Mode.{sealed}
 use Rattle.modes.specs.Modes.{namesMode, modeOf}
 use Rattle.modes.specs.Laws.{Keyed}
 use Rattle.modes.proofs.Laws.{modes-fitting}
-use Rattle.record.specs.Record.{modeIn, modeFor, countIn, nameSize, layoutOk, frontIn, nameIn, ivIn, textIn, tagIn, front}
+use Rattle.record.specs.Record.{modeIn, modeFor, countIn, nameSize, layoutOk, frontIn, nameIn, ivIn, textIn, tagIn, recordFront}
 use Rattle.record.specs.Seal.{recordOf}
 use Rattle.record.specs.Open.{authenticBy, plaintextBy}
 use Rattle.record.proofs.Parts.{layout-kept, parts-record, length-nameIn, length-ivIn, length-tagIn, permits-textIn, bytes-ivIn, bytes-textIn}
@@ -28,8 +28,8 @@ module _ (key r a : List ℕ) (keyed : Keyed (modeFor r) key (ivIn r)) (bytes : 
   unfolding plaintextBy
   plaintext-bytes = modes-fitting (modeIn r) .plaintext-bytes key (ivIn r) (textIn r) keyed (permits-textIn r layout) (bytes-textIn r bytes)
 
-  front-is : front (modeIn r) (nameIn r) (length (plaintextBy key r)) ≡ frontIn r
-  front-is = ap (front (modeIn r) (nameIn r)) (length-plaintextBy key r keyed layout) ∙ sym (front-back r bytes layout)
+  front-is : recordFront (modeIn r) (nameIn r) (length (plaintextBy key r)) ≡ frontIn r
+  front-is = ap (recordFront (modeIn r) (nameIn r)) (length-plaintextBy key r keyed layout) ∙ sym (front-back r bytes layout)
 
   module _ (right : authenticBy key r a ≡ true) where
     -- the plaintext of an authentic record, encrypted, gives its ciphertext and its tag
@@ -67,12 +67,12 @@ module _ (u : ℕ) (key name iv a p r : List ℕ) (keyed : Keyed (modeOf u) key 
   authentic-back bytes =
       ap (λ (v : ℕ). modeOf v .authentic key (ivIn r) (frontIn r ++ a) (textIn r) (tagIn r)) (read .fields .mode)
       ∙ ap₂ (λ (v h : List ℕ). modeOf u .authentic key v (h ++ a) (textIn r) (tagIn r)) (read .iv-is) (read .front-is)
-      ∙ ap₂ (modeOf u .authentic key iv (front u name (length p) ++ a)) (read .text-is) (read .tag-is)
-      ∙ modes-fitting u .authentic-exactly key iv (front u name (length p) ++ a) (textBy u key iv p) (tagBy u key name iv a p) keyed
+      ∙ ap₂ (modeOf u .authentic key iv (recordFront u name (length p) ++ a)) (read .text-is) (read .tag-is)
+      ∙ modes-fitting u .authentic-exactly key iv (recordFront u name (length p) ++ a) (textBy u key iv p) (tagBy u key name iv a p) keyed
       (ap (modeOf u .permits) (length-textBy u key name iv a p keyed permitted) ∙ permitted)
       (rw (read .text-is) at (bytes-textIn r bytes))
       (length-tagBy u key name iv a p keyed permitted) .1
-      (ap (modeOf u .tag key iv (front u name (length p) ++ a)) undone)
+      (ap (modeOf u .tag key iv (recordFront u name (length p) ++ a)) undone)
 
 -- ---- both ways
 
@@ -85,10 +85,10 @@ module _ (t r a out p : List ℕ) (table-bytes : Bytes t) (bytes : Bytes r) wher
         able =
             record {
               accepted = h .able .accepted;
-              row = h .row;
-              has-row = h .has-row;
-              mode = ap namesMode (h .able .use-is) ∙ h .able .mode;
-              named = omega (arith, name-long, layout-kept r layout .named);
+              found-row = h .row;
+              found-is = h .has-row;
+              names-mode = ap namesMode (h .able .use-is) ∙ h .able .mode;
+              name-given = omega (arith, name-long, layout-kept r layout .named);
               iv-size = length-ivIn r layout ∙ ap (λ (u : ℕ). modeOf u .ivSize) (sym (h .able .use-is));
               permitted = ap₂ (λ (u n : ℕ). modeOf u .permits n) (h .able .use-is) size ∙ layout-kept r layout .permitted;
               name-fits = omega (arith, name-long, h .able .short);
@@ -102,7 +102,7 @@ module _ (t r a out p : List ℕ) (table-bytes : Bytes t) (bytes : Bytes r) wher
       }
     where
       key : List ℕ
-      key = keyOf (h .row)
+      key = rowKey (h .row)
 
       layout : layoutOk r ≡ true
       layout = h .able .layout
@@ -119,13 +119,13 @@ module _ (t r a out p : List ℕ) (table-bytes : Bytes t) (bytes : Bytes r) wher
   pub sealed-opened : length p ≤ length out → SealedAs t (nameIn r) (ivIn r) a p r → OpenedAs t r a out p
   sealed-opened room h =
       record {
-        row = h .able .row;
-        has-row = h .able .has-row;
+        row = h .able .found-row;
+        has-row = h .able .found-is;
         able =
             record {
               accepted = h .able .accepted;
               layout = read .layout;
-              mode = ap namesMode mode-is ∙ h .able .mode;
+              mode = ap namesMode mode-is ∙ h .able .names-mode;
               short = omega (arith, read .fields .size, h .able .name-fits);
               few = omega (arith, read .fields .count, h .able .text-fits);
               little = h .able .data-fits;
@@ -137,10 +137,10 @@ module _ (t r a out p : List ℕ) (table-bytes : Bytes t) (bytes : Bytes r) wher
       }
     where
       u : ℕ
-      u = useOf (h .able .row)
+      u = useOf (h .able .found-row)
 
       key : List ℕ
-      key = keyOf (h .able .row)
+      key = rowKey (h .able .found-row)
 
       keyed : Keyed (modeOf u) key (ivIn r)
       keyed = as-keyed t (nameIn r) (ivIn r) a p r table-bytes h

@@ -12,19 +12,19 @@ use Rattle.octets.proofs.Tests.{part-at, part-after}
 use Rattle.keytable.specs.Row.{nameMax}
 use Rattle.modes.specs.Calls.{textMax}
 use Rattle.modes.specs.Modes.{modeOf}
-use Rattle.record.specs.Record.{ivAt, textAt, tagAt, endAt, layoutOk, frontIn, ivIn, textIn, tagIn, front}
+use Rattle.record.specs.Record.{ivAt, textAt, tagAt, endAt, layoutOk, frontIn, ivIn, textIn, tagIn, recordFront}
 use Rattle.record.specs.Laws.{ReadBack}
 use Rattle.record.proofs.Parts.{Kept, kept-layout}
 use Rattle.record.proofs.Written.{length-front, read-back, front-kept}
 
 abbrev pub laid : ℕ → List ℕ → ℕ → List ℕ → List ℕ → List ℕ → List ℕ
-laid u name n iv c g = front u name n ++ (iv ++ (c ++ g))
+laid u name n iv c g = recordFront u name n ++ (iv ++ (c ++ g))
 
 -- what is read from it
 pub record Laid (u : ℕ) (name : List ℕ) (n : ℕ) (iv c g r : List ℕ) : Type 0 where
   pub layout : layoutOk r ≡ true
   pub fields : ReadBack u n name r
-  pub front-is : frontIn r ≡ front u name n
+  pub front-is : frontIn r ≡ recordFront u name n
   pub iv-is : ivIn r ≡ iv
   pub text-is : textIn r ≡ c
   pub tag-is : tagIn r ≡ g
@@ -33,7 +33,7 @@ module _ (u : ℕ) (name : List ℕ) (n : ℕ) (iv c g : List ℕ) (iv-long : le
     (tag-long : length g ≡ modeOf u .tagSize) where
   pub length-laid : length (laid u name n iv c g) ≡ endAt (modeOf u) (length name) n
   length-laid =
-      omega (arith, length-append (front u name n) (iv ++ (c ++ g)), length-front u name n, length-append iv (c ++ g), length-append c g)
+      omega (arith, length-append (recordFront u name n) (iv ++ (c ++ g)), length-front u name n, length-append iv (c ++ g), length-append c g)
 
   module _ (named : 1 ≤ length name) (permitted : modeOf u .permits n ≡ true) (short : length name ≤ nameMax) (few : n ≤ textMax) where
     fields : ReadBack u n name (laid u name n iv c g)
@@ -44,12 +44,12 @@ module _ (u : ℕ) (name : List ℕ) (n : ℕ) (iv c g : List ℕ) (iv-long : le
 
     -- the places, once the fields are known
     places : (r : List ℕ) → laid u name n iv c g ≡ r → ReadBack u n name r
-        → (frontIn r ≡ front u name n) × (ivIn r ≡ iv) × (textIn r ≡ c) × (tagIn r ≡ g)
+        → (frontIn r ≡ recordFront u name n) × (ivIn r ≡ iv) × (textIn r ≡ c) × (tagIn r ≡ g)
     unfolding frontIn ivIn textIn tagIn
     places r is f = rw (f .mode, f .size, f .count, ← is) (first, second, third, fourth)
       where
         h : List ℕ
-        h = front u name n
+        h = recordFront u name n
 
         ivs : length h ≡ ivAt (length name)
         ivs = length-front u name n
@@ -85,5 +85,5 @@ module _ (u : ℕ) (name : List ℕ) (n : ℕ) (iv c g : List ℕ) (iv-long : le
         known : ReadBack u n name r
         known = rw is at fields
 
-        parts : (frontIn r ≡ front u name n) × (ivIn r ≡ iv) × (textIn r ≡ c) × (tagIn r ≡ g)
+        parts : (frontIn r ≡ recordFront u name n) × (ivIn r ≡ iv) × (textIn r ≡ c) × (tagIn r ≡ g)
         parts = places r is known

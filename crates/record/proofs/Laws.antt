@@ -11,22 +11,21 @@ use Rattle.octets.specs.Lent.{when}
 use Rattle.octets.specs.Bytes.{Bytes}
 use Rattle.octets.proofs.Lent.{over-injective}
 use Rattle.octets.proofs.Unique.{unique, unique-by}
-use Rattle.keytable.specs.Row.{useOf, keyOf}
+use Rattle.keytable.specs.Row.{useOf, rowKey}
 use Rattle.keytable.specs.Table.{tableOk, dataRow}
 use Rattle.record.specs.Record.{endIn, nameIn, ivIn}
-use Rattle.record.specs.Read.{headerSays, readNumber, readAnswer}
+use Rattle.record.specs.Read.{headerSays, headerNumber, headerAnswer}
 use Rattle.record.specs.Seal.{sealAnswer}
 use Rattle.record.specs.Open.{plaintextBy, openNumber, openAnswer}
 use Rattle.record.specs.Demand3.{Refuses, OpensExactly, OnePlaintext, OneOpening, ElseRefuses, SealedOpens}
-use Rattle.record.specs.Laws.{HeaderThere, HeaderBack, SealsInRange, SealsOnlyInRange, SealOtherRows, OpenOtherRows, SealEarlier, NextEarlier, OpenEarlier, ReadUnique, EndUnique, CheckUnique, SealUnique, OpenUnique, ReadTestsRise, SealTestsRise, TagTestsRise, OpenTestsRise}
+use Rattle.record.specs.Laws.{HeaderThere, HeaderBack, SealOtherRows, OpenOtherRows, HeaderUnique, EndUnique, RecordCheckUnique, SealUnique, RecordOpenUnique, HeaderTestsRise, SealTestsRise, RecordTagTestsRise, OpenTestsRise}
 use Rattle.record.specs.declared.header.Header.{Header}
 use Rattle.record.specs.declared.header.Header.the-variants.{Fields, BadForm, BadMode, TooLong}
 use Rattle.record.proofs.Written.{read-back, front-back}
 use Rattle.record.proofs.Laid.{Laid}
-use Rattle.record.proofs.Sealed.{range-sealed, zero-told, textBy, tagBy, SealedAs, as-keyed, seals-as, as-seals, as-laid}
+use Rattle.record.proofs.Sealed.{textBy, tagBy, SealedAs, as-keyed, seals-as, as-seals, as-laid}
 use Rattle.record.proofs.Opened.{OpenedAs, open-refused, open-number, opened-row, opens-size, opens-as, as-opens}
 use Rattle.record.proofs.Exactly.{plaintext-back, opened-sealed, sealed-opened}
-use Rattle.record.proofs.Earlier.{seal-alike, next-alike, open-alike}
 
 -- ---- demand 3
 
@@ -37,14 +36,14 @@ opens-exactly t r a out count p table-bytes bytes room = (
 )
 
 -- the plaintext that sealing by a row made r of
-undone : (t name iv a p r : List ℕ) → Bytes t → (s : SealedAs t name iv a p r) → plaintextBy (keyOf (s .able .row)) r ≡ p
+undone : (t name iv a p r : List ℕ) → Bytes t → (s : SealedAs t name iv a p r) → plaintextBy (rowKey (s .able .found-row)) r ≡ p
 undone t name iv a p r bytes s =
-    plaintext-back (useOf (s .able .row)) (keyOf (s .able .row)) name iv a p r (as-keyed t name iv a p r bytes s) (s .able .permitted) (s .bytes)
+    plaintext-back (useOf (s .able .found-row)) (rowKey (s .able .found-row)) name iv a p r (as-keyed t name iv a p r bytes s) (s .able .permitted) (s .bytes)
     (as-laid t name iv a p r bytes s)
 
 pub one-plaintext : OnePlaintext
 one-plaintext t name iv a p p′ r table-bytes bytes h h′ =
-    sym (undone t name iv a p r table-bytes s) ∙ ap (λ (row : List ℕ). plaintextBy (keyOf row) r) same-row ∙ undone t name iv a p′ r table-bytes s′
+    sym (undone t name iv a p r table-bytes s) ∙ ap (λ (row : List ℕ). plaintextBy (rowKey row) r) same-row ∙ undone t name iv a p′ r table-bytes s′
   where
     s : SealedAs t name iv a p r
     s = seals-as t name iv a p r table-bytes bytes h
@@ -52,8 +51,8 @@ one-plaintext t name iv a p p′ r table-bytes bytes h h′ =
     s′ : SealedAs t name iv a p′ r
     s′ = seals-as t name iv a p′ r table-bytes bytes h′
 
-    same-row : s .able .row ≡ s′ .able .row
-    same-row = cc (s .able .has-row, s′ .able .has-row)
+    same-row : s .able .found-row ≡ s′ .able .found-row
+    same-row = cc (s .able .found-is, s′ .able .found-is)
 
 pub one-opening : OneOpening
 one-opening t r a out count p p′ h h′ =
@@ -71,12 +70,12 @@ else-refuses t r a out count table-bytes bytes none = go (eqb number 0) refl
     not-zero : number ≡ 0 → ⊥
     not-zero e =
         let (row, has, able) = opened-row t r a out count (open-number t r a out count ∙ e) in
-        let opened : OpenedAs t r a out (plaintextBy (keyOf row) r) = record { row = row; has-row = has; able = able; is = refl } in
-        none (plaintextBy (keyOf row) r) (as-seals t (nameIn r) (ivIn r) a _ r table-bytes (opened-sealed t r a out _ table-bytes bytes opened))
+        let opened : OpenedAs t r a out (plaintextBy (rowKey row) r) = record { row = row; has-row = has; able = able; is = refl } in
+        none (plaintextBy (rowKey row) r) (as-seals t (nameIn r) (ivIn r) a _ r table-bytes (opened-sealed t r a out _ table-bytes bytes opened))
 
     go : (b : Bool) → eqb number 0 ≡ b → Refuses t r a out count
     go true e = absurd (not-zero (eqb-true number 0 e))
-    go false e = record { number = number; not-zero = not-zero; answers = open-refused (tableOk t) (dataRow t (nameIn r)) r a out count e }
+    go false e = record { refusal = number; not-zero = not-zero; answers = open-refused (tableOk t) (dataRow t (nameIn r)) r a out count e }
 
 pub sealed-opens : SealedOpens
 sealed-opens t name iv a p r out count table-bytes bytes h room =
@@ -85,7 +84,13 @@ sealed-opens t name iv a p r out count table-bytes bytes h room =
     s : SealedAs t name iv a p r
     s = seals-as t name iv a p r table-bytes bytes h
 
-    read : Laid (useOf (s .able .row)) name (length p) iv (textBy (useOf (s .able .row)) (keyOf (s .able .row)) iv p) (tagBy (useOf (s .able .row)) (keyOf (s .able .row)) name iv a p) r
+    u : ℕ
+    u = useOf (s .able .found-row)
+
+    key : List ℕ
+    key = rowKey (s .able .found-row)
+
+    read : Laid u name (length p) iv (textBy u key iv p) (tagBy u key name iv a p) r
     read = as-laid t name iv a p r table-bytes s
 
 -- ---- the header, there and back
@@ -96,14 +101,6 @@ header-there u n name rest short few = read-back u n name rest short few
 pub header-back : HeaderBack
 header-back r bytes layout = front-back r bytes layout
 
--- ---- sealing in range
-
-pub seals-in-range : SealsInRange
-seals-in-range = range-sealed
-
-pub seals-only-in-range : SealsOnlyInRange
-seals-only-in-range = zero-told
-
 -- ---- other rows
 
 pub seal-other-rows : SealOtherRows
@@ -111,17 +108,6 @@ seal-other-rows t u name iv a p out ok-t ok-u e = rw (ok-t, ok-u, e)
 
 pub open-other-rows : OpenOtherRows
 open-other-rows t u r a out count ok-t ok-u e = rw (ok-t, ok-u, e)
-
--- ---- what an output held before
-
-pub seal-earlier : SealEarlier
-seal-earlier = seal-alike
-
-pub next-earlier : NextEarlier
-next-earlier = next-alike
-
-pub open-earlier : OpenEarlier
-open-earlier = open-alike
 
 -- ---- one answer
 
@@ -138,31 +124,31 @@ headerIn-says BadForm = refl
 headerIn-says BadMode = refl
 headerIn-says TooLong = refl
 
-pub read-unique : ReadUnique
-read-unique r = unique-by headerSays headerIn headerIn-says (readAnswer r)
+pub header-unique : HeaderUnique
+header-unique r = unique-by headerSays headerIn headerIn-says (headerAnswer r)
 
 pub end-unique : EndUnique
 end-unique r = unique (endIn r)
 
-pub check-unique : CheckUnique
-check-unique r = unique (readNumber r)
+pub record-check-unique : RecordCheckUnique
+record-check-unique r = unique (headerNumber r)
 
 pub seal-unique : SealUnique
 seal-unique t name iv a p out = unique (sealAnswer t name iv a p out)
 
-pub open-unique : OpenUnique
-open-unique t r a out count = unique (openAnswer t r a out count)
+pub record-open-unique : RecordOpenUnique
+record-open-unique t r a out count = unique (openAnswer t r a out count)
 
 -- ---- the numbers rise
 
-pub read-tests-rise : ReadTestsRise
-read-tests-rise r = refl
+pub header-tests-rise : HeaderTestsRise
+header-tests-rise r = refl
 
 pub seal-tests-rise : SealTestsRise
 seal-tests-rise ok row name iv a n room = refl
 
-pub tag-tests-rise : TagTestsRise
-tag-tests-rise key r a = refl
+pub record-tag-tests-rise : RecordTagTestsRise
+record-tag-tests-rise key r a = refl
 
 pub open-tests-rise : OpenTestsRise
 open-tests-rise ok row r a room = refl

@@ -1,4 +1,6 @@
-pub mod Numbers
+pub mod Lengths
+pub mod SealNumbers
+pub mod OpenNumbers
 pub mod Parts
 pub mod Reading
 pub mod Apart
@@ -6,7 +8,7 @@ pub mod Written
 pub mod Filled
 pub mod Laid
 pub mod Sealed
-pub mod Ready
+pub mod SealReady
 pub mod WithSession
 pub mod Opened
 pub mod Exactly

@@ -11,7 +11,7 @@ use lib.Dec.{eqb}
 use lib.ListN.{length}
 use Rattle.octets.specs.Bytes.{Bytes}
 use Rattle.octets.specs.Lent.{over}
-use Rattle.keytable.specs.Row.{nameMax, useOf, keyOf}
+use Rattle.keytable.specs.Row.{nameMax, useOf, rowKey}
 use Rattle.keytable.specs.Table.{tableOk, dataRow}
 use Rattle.modes.specs.Calls.{textMax}
 use Rattle.modes.specs.Modes.{namesMode, modeOf}
@@ -23,7 +23,7 @@ use Rattle.record.specs.Open.{authenticBy, plaintextBy, openTests, openN
 use Rattle.record.specs.Demand3.{Opens}
 use Rattle.octets.proofs.Lent.{testAt, none-applies, over-injective}
 use Rattle.record.proofs.Parts.{length-ivIn, length-textIn, permits-textIn, bytes-ivIn}
-use Rattle.record.proofs.Numbers.{within-maxima, maxima-kept}
+use Rattle.record.proofs.Lengths.{within-maxima, maxima-kept}
 use Rattle.record.proofs.Sealed.{row-keyed}
 
 -- ---- the tests
@@ -38,7 +38,7 @@ pub record Openable (ok : Bool) (row r a : List ℕ) (room : ℕ) : Type 0 where
   pub little : length a ≤ callersMax
   pub fits : countIn r ≤ room
   pub use-is : useOf row ≡ modeIn r
-  pub authentic : authenticBy (keyOf row) r a ≡ true
+  pub authentic : authenticBy (rowKey row) r a ≡ true
 
 module _ (ok : Bool) (r a : List ℕ) (room : ℕ) where
   no-test : (row : Option (List ℕ)) (i : ℕ) → openNumber ok row r a room ≡ 0 → testAt (openTests ok row r a room) i ≡ false
@@ -60,7 +60,7 @@ module _ (ok : Bool) (r a : List ℕ) (room : ℕ) where
         little = maxima .2;
         fits = ltb-false room (countIn r) (no 4);
         use-is = eqb-true (useOf row) (modeIn r) (not-false (eqb (useOf row) (modeIn r)) (no 6));
-        authentic = not-false (authenticBy (keyOf row) r a) (no 7);
+        authentic = not-false (authenticBy (rowKey row) r a) (no 7);
       }
     where
       no : (i : ℕ) → testAt (openTests ok (some row) r a room) i ≡ false
@@ -97,9 +97,9 @@ length-plaintextBy key r keyed layout =
 
 -- the row's key and the record's IV
 pub open-keyed : (t r a row : List ℕ) (room : ℕ) → Bytes t → Bytes r → dataRow t (nameIn r) ≡ some row → Openable (tableOk t) row r a room
-    → Keyed (modeFor r) (keyOf row) (ivIn r)
+    → Keyed (modeFor r) (rowKey row) (ivIn r)
 open-keyed t r a row room table-bytes bytes has h =
-    subst (λ (u : ℕ). Keyed (modeOf u) (keyOf row) (ivIn r)) (h .use-is)
+    subst (λ (u : ℕ). Keyed (modeOf u) (rowKey row) (ivIn r)) (h .use-is)
     (row-keyed t (nameIn r) row (ivIn r) table-bytes (bytes-ivIn r bytes) (h .accepted) has
     (length-ivIn r (h .layout) ∙ ap (λ (u : ℕ). modeOf u .ivSize) (sym (h .use-is))))
 
@@ -110,11 +110,11 @@ pub record OpenedAs (t r a out p : List ℕ) : Type 0 where
   pub row : List ℕ
   pub has-row : dataRow t (nameIn r) ≡ some row
   pub able : Openable (tableOk t) row r a (length out)
-  pub is : plaintextBy (keyOf row) r ≡ p
+  pub is : plaintextBy (rowKey row) r ≡ p
 
 module _ (t r a out : List ℕ) (count : ℕ) where
   pub open-done : (row : List ℕ) → dataRow t (nameIn r) ≡ some row → Openable (tableOk t) row r a (length out)
-      → openAnswer t r a out count ≡ ((0, over (plaintextBy (keyOf row) r) out), countIn r)
+      → openAnswer t r a out count ≡ ((0, over (plaintextBy (rowKey row) r) out), countIn r)
   unfolding openRow
   open-done row is h = rw (is, open-passed (tableOk t) r a (length out) row h)
 
@@ -146,8 +146,8 @@ module _ (t r a out : List ℕ) (count : ℕ) where
           has-row = has;
           able = able;
           is =
-              over-injective (plaintextBy (keyOf row) r) p out
-              (length-plaintextBy (keyOf row) r (open-keyed t r a row (length out) table-bytes bytes has able) (able .layout) ∙ size) fits
+              over-injective (plaintextBy (rowKey row) r) p out
+              (length-plaintextBy (rowKey row) r (open-keyed t r a row (length out) table-bytes bytes has able) (able .layout) ∙ size) fits
               (ap (λ (x : (ℕ × List ℕ) × ℕ). x .0 .1) (sym (open-done row has able) ∙ h .answers));
         }
 
@@ -156,5 +156,5 @@ module _ (t r a out : List ℕ) (count : ℕ) where
       where
         size : countIn r ≡ length p
         size =
-            sym (length-plaintextBy (keyOf (h .row)) r (open-keyed t r a (h .row) (length out) table-bytes bytes (h .has-row) (h .able)) (h .able .layout))
+            sym (length-plaintextBy (rowKey (h .row)) r (open-keyed t r a (h .row) (length out) table-bytes bytes (h .has-row) (h .able)) (h .able .layout))
             ∙ ap length (h .is)

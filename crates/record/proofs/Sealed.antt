@@ -15,7 +15,7 @@ use Rattle.octets.proofs.Lent.{testAt, none-applies, answer-done, isNot-false, 
 use Rattle.octets.specs.Tests.{partOf}
 use Rattle.octets.proofs.Tests.{or-left, or-right, part-at}
 use Rattle.octets.proofs.Bytes.{bytes-take, bytes-drop}
-use Rattle.keytable.specs.Row.{nameMax, useOf, keyOf}
+use Rattle.keytable.specs.Row.{nameMax, useOf, rowKey}
 use Rattle.keytable.specs.Table.{tableOk, dataRow}
 use Rattle.keytable.proofs.Laws.{rowFor-good}
 use Rattle.keytable.proofs.RowFound.{row-key-bytes}
@@ -23,11 +23,11 @@ use Rattle.modes.specs.Calls.{textMax}
 use Rattle.modes.specs.Modes.{namesMode, modeOf}
 use Rattle.modes.specs.Laws.{Keyed}
 use Rattle.modes.proofs.Laws.{modes-fitting}
-use Rattle.record.specs.Record.{endAt, front}
+use Rattle.record.specs.Record.{endAt, recordFront}
 use Rattle.record.specs.Seal.{callersMax, recordOf, sealedSize, sealTests, sealNumber, sealRow, sealAnswer}
 use Rattle.record.specs.Demand3.{Seals}
-use Rattle.record.specs.Laws.{InRange, SealsInRange, SealsOnlyInRange}
-use Rattle.record.proofs.Numbers.{key-size, within-maxima, maxima-kept}
+use Rattle.record.specs.Laws.{SealInRange, SealsInRange, SealsOnlyInRange}
+use Rattle.record.proofs.Lengths.{key-size, within-maxima, maxima-kept}
 use Rattle.record.proofs.Written.{length-front}
 use Rattle.record.proofs.Filled.{over-append}
 use Rattle.record.proofs.Laid.{laid, Laid, length-laid, laid-out}
@@ -39,15 +39,15 @@ module _ (ok : Bool) (name iv a : List ℕ) (n room : ℕ) where
   unfolding sealNumber
   no-test row i e = none-applies (sealTests ok row name iv a n room) i refl e
 
-  pub in-range : (o : Option (List ℕ)) → sealNumber ok o name iv a n room ≡ 0 → InRange ok o name iv a n room
+  pub in-range : (o : Option (List ℕ)) → sealNumber ok o name iv a n room ≡ 0 → SealInRange ok o name iv a n room
   in-range none e = absurd (false≢true (sym (no-test none 4 e)))
   in-range (some row) e =
       record {
         accepted = not-false ok (no 0);
-        row = row;
-        has-row = refl;
-        mode = not-false (namesMode u) (no 5);
-        named = omega (arith, eqb-false (length name) 0 (or-left (eqb (length name) 0) (isNot (modeOf u .ivSize) iv) sizes));
+        found-row = row;
+        found-is = refl;
+        names-mode = not-false (namesMode u) (no 5);
+        name-given = omega (arith, eqb-false (length name) 0 (or-left (eqb (length name) 0) (isNot (modeOf u .ivSize) iv) sizes));
         iv-size = isNot-false (modeOf u .ivSize) iv (or-right (eqb (length name) 0) (isNot (modeOf u .ivSize) iv) sizes);
         permitted = not-false (modeOf u .permits n) (or-right (eqb (length name) 0 || isNot (modeOf u .ivSize) iv) (not (modeOf u .permits n)) (no 1));
         name-fits = maxima .0;
@@ -68,30 +68,30 @@ module _ (ok : Bool) (name iv a : List ℕ) (n room : ℕ) where
       maxima : (length name ≤ nameMax) × (n ≤ textMax) × (length a ≤ callersMax)
       maxima = within-maxima (length name) n a (no 2)
 
-  pub seal-passed : (o : Option (List ℕ)) → InRange ok o name iv a n room → sealNumber ok o name iv a n room ≡ 0
+  pub seal-passed : (o : Option (List ℕ)) → SealInRange ok o name iv a n room → sealNumber ok o name iv a n room ≡ 0
   unfolding sealNumber
   seal-passed o h =
       rw (
         h .accepted,
-        h .has-row,
-        ne-eqb (length name) 0 (λ e. omega (arith, h .named, e)),
-        isNot-right (modeOf (useOf (h .row)) .ivSize) iv (h .iv-size),
+        h .found-is,
+        ne-eqb (length name) 0 (λ e. omega (arith, h .name-given, e)),
+        isNot-right (modeOf (useOf (h .found-row)) .ivSize) iv (h .iv-size),
         h .permitted,
         maxima-kept (length name) n a (h .name-fits) (h .text-fits) (h .data-fits),
-        le-ltb room (sealedSize (some (h .row)) name n) (h .room-fits),
-        h .mode,
+        le-ltb room (sealedSize (some (h .found-row)) name n) (h .room-fits),
+        h .names-mode,
       )
 
 -- with other room
-abbrev pub with-room : {ok : Bool} {o : Option (List ℕ)} {name iv a : List ℕ} {n room : ℕ} (h : InRange ok o name iv a n room) (room′ : ℕ)
-    → sealedSize (some (h .row)) name n ≤ room′ → InRange ok o name iv a n room′
+abbrev pub with-room : {ok : Bool} {o : Option (List ℕ)} {name iv a : List ℕ} {n room : ℕ} (h : SealInRange ok o name iv a n room) (room′ : ℕ)
+    → sealedSize (some (h .found-row)) name n ≤ room′ → SealInRange ok o name iv a n room′
 with-room h room′ fits =
     record {
       accepted = h .accepted;
-      row = h .row;
-      has-row = h .has-row;
-      mode = h .mode;
-      named = h .named;
+      found-row = h .found-row;
+      found-is = h .found-is;
+      names-mode = h .names-mode;
+      name-given = h .name-given;
       iv-size = h .iv-size;
       permitted = h .permitted;
       name-fits = h .name-fits;
@@ -102,15 +102,15 @@ with-room h room′ fits =
 
 -- ---- the answer 0
 
-pub range-sealed : SealsInRange
+pub seals-in-range : SealsInRange
 unfolding sealRow
-range-sealed t name iv a p out h =
-    ap (λ (o : Option (List ℕ)). sealRow (tableOk t) o name iv a p out) (h .has-row)
-    ∙ answer-done _ _ out (rw (h .has-row) at (seal-passed (tableOk t) name iv a (length p) (length out) (dataRow t name) h))
+seals-in-range t name iv a p out h =
+    ap (λ (o : Option (List ℕ)). sealRow (tableOk t) o name iv a p out) (h .found-is)
+    ∙ answer-done _ _ out (rw (h .found-is) at (seal-passed (tableOk t) name iv a (length p) (length out) (dataRow t name) h))
 
-pub zero-told : SealsOnlyInRange
+pub seals-only-in-range : SealsOnlyInRange
 unfolding sealRow
-zero-told t name iv a p out e = in-range (tableOk t) name iv a (length p) (length out) (dataRow t name) e
+seals-only-in-range t name iv a p out e = in-range (tableOk t) name iv a (length p) (length out) (dataRow t name) e
 
 -- ---- the record
 
@@ -119,7 +119,7 @@ abbrev pub textBy : ℕ → List ℕ → List ℕ → List ℕ → List ℕ
 textBy u key iv p = modeOf u .ciphertext key iv p
 
 abbrev pub tagBy : ℕ → List ℕ → List ℕ → List ℕ → List ℕ → List ℕ → List ℕ
-tagBy u key name iv a p = modeOf u .tag key iv (front u name (length p) ++ a) p
+tagBy u key name iv a p = modeOf u .tag key iv (recordFront u name (length p) ++ a) p
 
 pub recordOf-laid : (u : ℕ) (key name iv a p : List ℕ) → laid u name (length p) iv (textBy u key iv p) (tagBy u key name iv a p) ≡ recordOf u key name iv a p
 unfolding recordOf
@@ -130,7 +130,7 @@ module _ (u : ℕ) (key name iv a p : List ℕ) (keyed : Keyed (modeOf u) key iv
   length-textBy = modes-fitting u .ciphertext-length key iv p keyed permitted
 
   pub length-tagBy : length (tagBy u key name iv a p) ≡ modeOf u .tagSize
-  length-tagBy = modes-fitting u .tag-length key iv (front u name (length p) ++ a) p keyed permitted
+  length-tagBy = modes-fitting u .tag-length key iv (recordFront u name (length p) ++ a) p keyed permitted
 
   pub length-recordOf : length (recordOf u key name iv a p) ≡ endAt (modeOf u) (length name) (length p)
   length-recordOf =
@@ -139,7 +139,7 @@ module _ (u : ℕ) (key name iv a p : List ℕ) (keyed : Keyed (modeOf u) key iv
 
 -- a row's key, and an IV of the length of its use's mode
 pub row-keyed : (t name row iv : List ℕ) → Bytes t → Bytes iv → tableOk t ≡ true → dataRow t name ≡ some row → length iv ≡ modeOf (useOf row) .ivSize
-    → Keyed (modeOf (useOf row)) (keyOf row) iv
+    → Keyed (modeOf (useOf row)) (rowKey row) iv
 row-keyed t name row iv bytes iv-bytes ok has size =
     record {
       key-size = rowFor-good t name row ok has .key-size ∙ sym (key-size (useOf row));
@@ -153,8 +153,8 @@ row-keyed t name row iv bytes iv-bytes ok has size =
 pub record SealedAs (t name iv a p r : List ℕ) : Type 0 where
   pub bytes : Bytes p
   pub iv-bytes : Bytes iv
-  pub able : InRange (tableOk t) (dataRow t name) name iv a (length p) (sealedSize (dataRow t name) name (length p))
-  pub is : recordOf (useOf (able .row)) (keyOf (able .row)) name iv a p ≡ r
+  pub able : SealInRange (tableOk t) (dataRow t name) name iv a (length p) (sealedSize (dataRow t name) name (length p))
+  pub is : recordOf (useOf (able .found-row)) (rowKey (able .found-row)) name iv a p ≡ r
 
 -- the IV of bytes that begin with a front and the IV
 front-iv-bytes : (F iv S out r : List ℕ) → length F + length iv ≤ length out → over (F ++ (iv ++ S)) out ≡ r → Bytes r → Bytes iv
@@ -174,8 +174,8 @@ front-iv-bytes F iv S out r fits e bytes = rw is at (bytes-take (length iv) (byt
     is = ap (λ (l : List ℕ). partOf l (length F) (length iv)) (sym whole) ∙ part-at F iv rest (length F) (length iv) refl refl
 
 module _ (t name iv a p r : List ℕ) (table-bytes : Bytes t) where
-  pub as-keyed : (h : SealedAs t name iv a p r) → Keyed (modeOf (useOf (h .able .row))) (keyOf (h .able .row)) iv
-  as-keyed h = row-keyed t name (h .able .row) iv table-bytes (h .iv-bytes) (h .able .accepted) (h .able .has-row) (h .able .iv-size)
+  pub as-keyed : (h : SealedAs t name iv a p r) → Keyed (modeOf (useOf (h .able .found-row))) (rowKey (h .able .found-row)) iv
+  as-keyed h = row-keyed t name (h .able .found-row) iv table-bytes (h .iv-bytes) (h .able .accepted) (h .able .found-is) (h .able .iv-size)
 
   pub seals-as : Bytes r → Seals t name iv a p r → SealedAs t name iv a p r
   unfolding recordOf
@@ -193,59 +193,59 @@ module _ (t name iv a p r : List ℕ) (table-bytes : Bytes t) where
       answered : sealAnswer t name iv a p out ≡ (0, r)
       answered = h .makes out (length-out ∙ ap (λ (o : Option (List ℕ)). sealedSize o name (length p)) (h .has-row))
 
-      inside : InRange (tableOk t) (dataRow t name) name iv a (length p) (length out)
-      inside = zero-told t name iv a p out (ap (λ (x : ℕ × List ℕ). x .0) answered)
+      inside : SealInRange (tableOk t) (dataRow t name) name iv a (length p) (length out)
+      inside = seals-only-in-range t name iv a p out (ap (λ (x : ℕ × List ℕ). x .0) answered)
 
       u : ℕ
-      u = useOf (inside .row)
+      u = useOf (inside .found-row)
 
       key : List ℕ
-      key = keyOf (inside .row)
+      key = rowKey (inside .found-row)
 
       written : over (recordOf u key name iv a p) out ≡ r
-      written = ap (λ (x : ℕ × List ℕ). x .1) (sym (range-sealed t name iv a p out inside) ∙ answered)
+      written = ap (λ (x : ℕ × List ℕ). x .1) (sym (seals-in-range t name iv a p out inside) ∙ answered)
 
       iv-bytes : Bytes iv
       iv-bytes =
-          front-iv-bytes (front u name (length p)) iv _ out r (omega (arith, length-front u name (length p), inside .iv-size, inside .room-fits)) written bytes
+          front-iv-bytes (recordFront u name (length p)) iv _ out r (omega (arith, length-front u name (length p), inside .iv-size, inside .room-fits)) written bytes
 
       keyed : Keyed (modeOf u) key iv
-      keyed = row-keyed t name (inside .row) iv table-bytes iv-bytes (inside .accepted) (inside .has-row) (inside .iv-size)
+      keyed = row-keyed t name (inside .found-row) iv table-bytes iv-bytes (inside .accepted) (inside .found-is) (inside .iv-size)
 
       whole : length (recordOf u key name iv a p) ≡ length out
       whole =
           length-recordOf u key name iv a p keyed (inside .permitted)
-          ∙ ap (λ (o : Option (List ℕ)). sealedSize o name (length p)) (sym (inside .has-row))
+          ∙ ap (λ (o : Option (List ℕ)). sealedSize o name (length p)) (sym (inside .found-is))
           ∙ sym length-out
 
-      able : InRange (tableOk t) (dataRow t name) name iv a (length p) size
+      able : SealInRange (tableOk t) (dataRow t name) name iv a (length p) size
       able = with-room inside size (omega (arith, inside .room-fits, length-out))
 
       is : recordOf u key name iv a p ≡ r
       is = sym (over-whole (recordOf u key name iv a p) out whole) ∙ written
 
   pub as-seals : SealedAs t name iv a p r → Seals t name iv a p r
-  as-seals h = record { bytes = h .bytes; row = h .able .row; has-row = h .able .has-row; makes = makes }
+  as-seals h = record { bytes = h .bytes; row = h .able .found-row; has-row = h .able .found-is; makes = makes }
     where
-      makes : (out : List ℕ) → length out ≡ sealedSize (some (h .able .row)) name (length p) → sealAnswer t name iv a p out ≡ (0, r)
+      makes : (out : List ℕ) → length out ≡ sealedSize (some (h .able .found-row)) name (length p) → sealAnswer t name iv a p out ≡ (0, r)
       makes out size =
-          range-sealed t name iv a p out (with-room (h .able) (length out) (omega arith))
+          seals-in-range t name iv a p out (with-room (h .able) (length out) (omega arith))
           ∙ ap (λ (l : List ℕ). (0, l))
-          (over-whole _ out (length-recordOf (useOf (h .able .row)) (keyOf (h .able .row)) name iv a p (as-keyed h) (h .able .permitted) ∙ sym size) ∙ h .is)
+          (over-whole _ out (length-recordOf (useOf (h .able .found-row)) (rowKey (h .able .found-row)) name iv a p (as-keyed h) (h .able .permitted) ∙ sym size) ∙ h .is)
 
   -- and what is read from r
   pub as-laid : (h : SealedAs t name iv a p r)
-      → let u = useOf (h .able .row) in let key = keyOf (h .able .row) in Laid u name (length p) iv (textBy u key iv p) (tagBy u key name iv a p) r
+      → let u = useOf (h .able .found-row) in let key = rowKey (h .able .found-row) in Laid u name (length p) iv (textBy u key iv p) (tagBy u key name iv a p) r
   as-laid h =
       laid-out u name (length p) iv (textBy u key iv p) (tagBy u key name iv a p) (h .able .iv-size) (length-textBy u key name iv a p keyed (h .able .permitted))
-      (length-tagBy u key name iv a p keyed (h .able .permitted)) (h .able .named) (h .able .permitted) (h .able .name-fits) (h .able .text-fits) r
+      (length-tagBy u key name iv a p keyed (h .able .permitted)) (h .able .name-given) (h .able .permitted) (h .able .name-fits) (h .able .text-fits) r
       (recordOf-laid u key name iv a p ∙ h .is)
     where
       u : ℕ
-      u = useOf (h .able .row)
+      u = useOf (h .able .found-row)
 
       key : List ℕ
-      key = keyOf (h .able .row)
+      key = rowKey (h .able .found-row)
 
       keyed : Keyed (modeOf u) key iv
       keyed = as-keyed h

@@ -15,21 +15,22 @@ use Rattle.octets.proofs.Tests.{part-at}
 use Rattle.octets.proofs.Unique.{unique, unique-by}
 use Rattle.keytable.specs.Row.{nameMax, useOf}
 use Rattle.keytable.specs.Table.{tableOk, dataRow}
-use Rattle.session.specs.Iv.{lastField, withFields, isSpent, ivOf, after}
-use Rattle.session.specs.Calls.{Answer, sessionAfter}
-use Rattle.session.specs.Laws.{Run}
+use Rattle.session.specs.Iv.{lastField, withFields, isSpent, ivOf, nextSession}
+use Rattle.session.specs.Calls.{SessionAnswer, sessionAfter}
+use Rattle.session.specs.Laws.{SessionRun}
 use Rattle.session.specs.declared.Session.{Session}
 use Rattle.session.proofs.Runs.{run-differs}
 use Rattle.modes.specs.Calls.{textMax}
 use Rattle.modes.specs.Modes.{modeOf}
-use Rattle.record.specs.Record.{ivAt, ivIn, front}
+use Rattle.record.specs.Record.{ivAt, ivIn, recordFront}
 use Rattle.record.specs.Seal.{recordOf, sealedSize, sealNumber, sealRow}
 use Rattle.record.specs.Next.{sealedSays, sealNextNumber, sealNextRow, sealNextAnswer}
-use Rattle.record.specs.Laws.{NextOtherRows, NextLive, NextSpent, NextSeals, NextAdvances, NextRefused, Lent, before, call, written, RecordsDiffer, SealByUnique, SealNextUnique, SealNextTestsRise}
+use Rattle.record.specs.Laws.{NextOtherRows, NextLive, NextSpent, NextSeals, NextAdvances, NextRefused, Lent, sealBefore, sealCall, written, RecordsDiffer}
+use Rattle.record.specs.Laws.{SealByUnique, SealNextUnique, SealNextTestsRise}
 use Rattle.octets.proofs.Lent.{answer-done}
 use Rattle.record.proofs.Written.{length-front, read-back}
 use Rattle.record.proofs.Filled.{over-append}
-use Rattle.record.proofs.Sealed.{in-range, range-sealed}
+use Rattle.record.proofs.Sealed.{in-range, seals-in-range}
 use Rattle.record.proofs.WithSession.{next-zero, next-live, next-spent, next-done}
 
 -- ---- one call
@@ -56,10 +57,10 @@ unfolding sealRow
 next-seals s t name a p out e =
     let (number, live) = next-told s t name a p out e in
     answer-done _ _ out number
-    ∙ ap (λ (x : Answer). (0, x .1)) (sym (next-done s (tableOk t) (dataRow t name) name a p out number live))
+    ∙ ap (λ (x : SessionAnswer). (0, x .1)) (sym (next-done s (tableOk t) (dataRow t name) name a p out number live))
 
 -- an IV always leads to another session
-moved : (s : Session) → isSpent s ≡ false → after s ≡ s → ⊥
+moved : (s : Session) → isSpent s ≡ false → nextSession s ≡ s → ⊥
 moved s live = go (eqb (s .next) lastField)
   where
     zero-spent : s .spent ≡ 0
@@ -83,7 +84,7 @@ next-advances s t name a p out = (advances, (changes, changed))
     n : ℕ
     n = sealNextAnswer s t name a p out .0
 
-    advances : n ≡ 0 → sealNextAnswer s t name a p out .2 ≡ after s
+    advances : n ≡ 0 → sealNextAnswer s t name a p out .2 ≡ nextSession s
     advances e = next-moves s t name a p out ∙ ap (λ (m : ℕ). sessionAfter m s) e
 
     changes : n ≡ 0 → sealNextAnswer s t name a p out .2 ≡ s → ⊥
@@ -94,7 +95,7 @@ next-advances s t name a p out = (advances, (changes, changed))
       where
         go : (b : Bool) → eqb n 0 ≡ b → n ≡ 0
         go true e = eqb-true n 0 e
-        go false e = absurd (h (ap (λ (x : Answer). x .2) (next-refused-same s t name a p out (eqb-false n 0 e))))
+        go false e = absurd (h (ap (λ (x : SessionAnswer). x .2) (next-refused-same s t name a p out (eqb-false n 0 e))))
 
 -- ---- the IV of the record that was written
 
@@ -118,11 +119,11 @@ begun F iv S out size short fits =
 
 -- and its fields say where the IV stands
 iv-read : (u : ℕ) (name : List ℕ) (n : ℕ) (iv rest : List ℕ) → length name ≤ nameMax → n ≤ textMax → length iv ≡ modeOf u .ivSize
-    → ivIn (front u name n ++ (iv ++ rest)) ≡ iv
+    → ivIn (recordFront u name n ++ (iv ++ rest)) ≡ iv
 unfolding ivIn
 iv-read u name n iv rest short few size =
     let fields = read-back u n name (iv ++ rest) short few in
-    rw (fields .mode, fields .size) (part-at (front u name n) iv rest (ivAt (length name)) (modeOf u .ivSize) (length-front u name n) size)
+    rw (fields .mode, fields .size) (part-at (recordFront u name n) iv rest (ivAt (length name)) (modeOf u .ivSize) (length-front u name n) size)
 
 iv-written : (s : Session) (t name a p out : List ℕ) → sealNextAnswer s t name a p out .0 ≡ 0
     → ivIn (take (sealedSize (dataRow t name) name (length p)) (sealNextAnswer s t name a p out .1)) ≡ ivOf s
@@ -130,36 +131,36 @@ unfolding recordOf
 iv-written s t name a p out e =
     let (number, live) = next-told s t name a p out e in
     let h = in-range (tableOk t) name (ivOf s) a (length p) (length out) (dataRow t name) number in
-    let u = useOf (h .row) in
-    let F = front u name (length p) in
+    let u = useOf (h .found-row) in
+    let F = recordFront u name (length p) in
     let size = sealedSize (dataRow t name) name (length p) in
-    let size-is = ap (λ (o : Option (List ℕ)). sealedSize o name (length p)) (h .has-row) in
+    let size-is = ap (λ (o : Option (List ℕ)). sealedSize o name (length p)) (h .found-is) in
     let fits : size ≤ length out = omega (arith, size-is, h .room-fits) in
     let short : length F + length (ivOf s) ≤ size = omega (arith, size-is, length-front u name (length p), h .iv-size) in
     ap (λ (l : List ℕ). ivIn (take size l))
-    (ap (λ (x : ℕ × List ℕ). x .1) (sym (next-seals s t name a p out e) ∙ range-sealed t name (ivOf s) a p out h))
+    (ap (λ (x : ℕ × List ℕ). x .1) (sym (next-seals s t name a p out e) ∙ seals-in-range t name (ivOf s) a p out h))
     ∙ ap ivIn (begun F (ivOf s) _ out size short fits)
     ∙ iv-read u name (length p) (ivOf s) _ (h .name-fits) (h .text-fits) (h .iv-size)
 
 -- ---- calls one after another
 
-calls : (lent : ℕ → Lent) (s : Session) → Run (before lent s) (λ i. call lent s i .0)
+calls : (lent : ℕ → Lent) (s : Session) → SessionRun (sealBefore lent s) (λ i. sealCall lent s i .0)
 calls lent s =
     record {
-      moves = λ i. let l = lent i in next-moves (before lent s i) (l .table) (l .name) (l .aad) (l .plain) (l .out);
-      live = λ i e. let l = lent i in next-told (before lent s i) (l .table) (l .name) (l .aad) (l .plain) (l .out) e .1;
+      moves = λ i. let l = lent i in next-moves (sealBefore lent s i) (l .table) (l .name) (l .aad) (l .plain) (l .out);
+      live = λ i e. let l = lent i in next-told (sealBefore lent s i) (l .table) (l .name) (l .aad) (l .plain) (l .out) e .1;
     }
 
 pub records-differ : RecordsDiffer
-records-differ s lent i j below hi hj e = run-differs (before lent s) _ (calls lent s) below i j hi hj (sym (given i hi) ∙ e ∙ given j hj)
+records-differ s lent i j below hi hj e = run-differs (sealBefore lent s) _ (calls lent s) below i j hi hj (sym (given i hi) ∙ e ∙ given j hj)
   where
-    given : (k : ℕ) → call lent s k .0 ≡ 0 → ivIn (written lent s k) ≡ ivOf (before lent s k)
-    given k = let l = lent k in iv-written (before lent s k) (l .table) (l .name) (l .aad) (l .plain) (l .out)
+    given : (k : ℕ) → sealCall lent s k .0 ≡ 0 → ivIn (written lent s k) ≡ ivOf (sealBefore lent s k)
+    given k = let l = lent k in iv-written (sealBefore lent s k) (l .table) (l .name) (l .aad) (l .plain) (l .out)
 
 -- ---- one answer
 
 pub seal-by-unique : SealByUnique
-seal-by-unique s t name a p out = unique-by sealedSays (λ (z : Answer). (record { number = z .0; session = z .2 }, z .1)) (λ x. refl) (sealNextAnswer s t name a p out)
+seal-by-unique s t name a p out = unique-by sealedSays (λ (z : SessionAnswer). (record { number = z .0; session = z .2 }, z .1)) (λ x. refl) (sealNextAnswer s t name a p out)
 
 pub seal-next-unique : SealNextUnique
 seal-next-unique s t name a p out = unique (sealNextAnswer s t name a p out)

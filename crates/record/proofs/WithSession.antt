@@ -11,15 +11,15 @@ use lib.Dec.{eqb}
 use lib.ListN.{length, length-replicate}
 use Rattle.octets.specs.Lent.{when, lowest, over}
 use Rattle.octets.proofs.Tests.{and-left, and-right}
-use Rattle.session.specs.Iv.{prefixSize, ivSize, isSpent, ivOf, after}
-use Rattle.session.specs.Calls.{Answer, advanceAnswer}
+use Rattle.session.specs.Iv.{prefixSize, sessionIvSize, isSpent, ivOf, nextSession}
+use Rattle.session.specs.Calls.{SessionAnswer, advanceAnswer}
 use Rattle.session.specs.declared.Session.{Session}
 use Rattle.session.proofs.Calls.{advance-spent, advance-done, advance-live}
 use Rattle.session.proofs.Laws.{length-iv}
 use Rattle.record.specs.Seal.{recordBy, sealTests, sealNumber, readyBy}
 use Rattle.record.specs.Next.{sealNextNumber, sealNextRow}
 use Rattle.octets.proofs.Lent.{numbered}
-use Rattle.record.proofs.Ready.{ready-refused, ready-number}
+use Rattle.record.proofs.SealReady.{ready-refused, ready-number}
 
 -- ---- tests and then others: the first list's number, and where it gives 0 the second's
 
@@ -79,7 +79,7 @@ module _ (s : Session) (ok : Bool) (row : Option (List ℕ)) (name a p : List �
       unfolding sealNextRow
       next-spent spent = rw (next-number (length out), e, spent)
 
-      pub next-done : isSpent s ≡ false → sealNextRow s ok row name a p out ≡ (0, over (recordBy row name (ivOf s) a p) out, after s)
+      pub next-done : isSpent s ≡ false → sealNextRow s ok row name a p out ≡ (0, over (recordBy row name (ivOf s) a p) out, nextSession s)
       unfolding sealNextRow
       next-done live = rw (next-number (length out), e, live)
 
@@ -90,21 +90,21 @@ module _ (s : Session) (m : ℕ) (iv : List ℕ) (t : Session) (e : advanceAnswe
   advance-told h = go (isSpent s) refl
     where
       go : (b : Bool) → isSpent s ≡ b → (b ≡ true) × (10 ≡ m) × (s ≡ t)
-      go true p = let d = sym (advance-spent s p) ∙ e in (refl, ap (λ (x : Answer). x .0) d, ap (λ (x : Answer). x .2) d)
-      go false p = absurd (h (sym (ap (λ (x : Answer). x .0) (sym (advance-done s p) ∙ e))))
+      go true p = let d = sym (advance-spent s p) ∙ e in (refl, ap (λ (x : SessionAnswer). x .0) d, ap (λ (x : SessionAnswer). x .2) d)
+      go false p = absurd (h (sym (ap (λ (x : SessionAnswer). x .0) (sym (advance-done s p) ∙ e))))
 
-  advance-gave : m ≡ 0 → (isSpent s ≡ false) × (ivOf s ≡ iv) × (after s ≡ t)
+  advance-gave : m ≡ 0 → (isSpent s ≡ false) × (ivOf s ≡ iv) × (nextSession s ≡ t)
   advance-gave z =
-      let live = advance-live s (ap (λ (x : Answer). x .0) e ∙ z) in
-      let d = sym (advance-done s live) ∙ e in (live, ap (λ (x : Answer). x .1) d, ap (λ (x : Answer). x .2) d)
+      let live = advance-live s (ap (λ (x : SessionAnswer). x .0) e ∙ z) in
+      let d = sym (advance-done s live) ∙ e in (live, ap (λ (x : SessionAnswer). x .1) d, ap (λ (x : SessionAnswer). x .2) d)
 
   -- the IV that came with it has the length of the session's next one, spent or not
   iv-alike : length (s .prefix) ≡ prefixSize → length iv ≡ length (ivOf s)
   iv-alike size = go (isSpent s) refl
     where
       go : (b : Bool) → isSpent s ≡ b → length iv ≡ length (ivOf s)
-      go true p = ap length (sym (ap (λ (x : Answer). x .1) (sym (advance-spent s p) ∙ e))) ∙ length-replicate {A = ℕ} ivSize 0 ∙ sym (length-iv s size)
-      go false p = ap length (sym (ap (λ (x : Answer). x .1) (sym (advance-done s p) ∙ e)))
+      go true p = ap length (sym (ap (λ (x : SessionAnswer). x .1) (sym (advance-spent s p) ∙ e))) ∙ length-replicate {A = ℕ} sessionIvSize 0 ∙ sym (length-iv s size)
+      go false p = ap length (sym (ap (λ (x : SessionAnswer). x .1) (sym (advance-done s p) ∙ e)))
 
   -- and sealing's number looks at that length alone
   module _ (size : length (s .prefix) ≡ prefixSize) (ok : Bool) (row : Option (List ℕ)) (name a p out : List ℕ) where

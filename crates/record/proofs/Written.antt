@@ -14,15 +14,15 @@ use Rattle.octets.proofs.BigEndian.{number-be, be-numberAt}
 use Rattle.keytable.specs.Row.{nameMax}
 use Rattle.modes.specs.Calls.{textMax}
 use Rattle.modes.specs.Modes.{modeOf}
-use Rattle.record.specs.Record.{recordFormat, nameAt, ivAt, textAt, tagAt, endAt, modeIn, countIn, nameSize, layoutOk, frontIn, nameIn, header, front}
+use Rattle.record.specs.Record.{recordFormat, nameAt, ivAt, textAt, tagAt, endAt, modeIn, countIn, nameSize, layoutOk, frontIn, nameIn, header, recordFront}
 use Rattle.record.specs.Laws.{ReadBack}
-use Rattle.record.proofs.Numbers.{iv-small}
+use Rattle.record.proofs.Lengths.{iv-small}
 use Rattle.record.proofs.Parts.{Kept, layout-kept, length-nameIn}
 
 -- ---- there
 
-pub length-front : (u : ℕ) (name : List ℕ) (n : ℕ) → length (front u name n) ≡ ivAt (length name)
-unfolding front header
+pub length-front : (u : ℕ) (name : List ℕ) (n : ℕ) → length (recordFront u name n) ≡ ivAt (length name)
+unfolding recordFront header
 length-front u name n = omega arith
 
 -- a written header, whatever comes after it
@@ -60,15 +60,15 @@ module _ (u k n : ℕ) (rest : List ℕ) (short : k ≤ nameMax) (few : n < 2 ^ 
 
 module _ (u n : ℕ) (name rest : List ℕ) (short : length name ≤ nameMax) (few : n ≤ textMax) where
   -- front and what follows, as a header and what follows
-  front-header : header u (length name) n ++ (name ++ rest) ≡ front u name n ++ rest
-  unfolding front
+  front-header : header u (length name) n ++ (name ++ rest) ≡ recordFront u name n ++ rest
+  unfolding recordFront
   front-header = sym (append-assoc (header u (length name) n) name rest)
 
-  name-back : nameSize (front u name n ++ rest) ≡ length name → nameIn (front u name n ++ rest) ≡ name
-  unfolding front header nameIn
-  name-back e = take-at name rest (nameSize (front u name n ++ rest)) (sym e)
+  name-back : nameSize (recordFront u name n ++ rest) ≡ length name → nameIn (recordFront u name n ++ rest) ≡ name
+  unfolding recordFront header nameIn
+  name-back e = take-at name rest (nameSize (recordFront u name n ++ rest)) (sym e)
 
-  pub read-back : ReadBack u n name (front u name n ++ rest)
+  pub read-back : ReadBack u n name (recordFront u name n ++ rest)
   read-back = record { mode = rw front-header at mode; count = rw front-header at count; size = size-is; name-is = name-back size-is }
     where
       mode : modeIn (header u (length name) n ++ (name ++ rest)) ≡ u
@@ -80,10 +80,10 @@ module _ (u n : ℕ) (name rest : List ℕ) (short : length name ≤ nameMax) (f
       size : nameSize (header u (length name) n ++ (name ++ rest)) ≡ length name
       size = header-size u (length name) n (name ++ rest) short (omega (arith, few))
 
-      size-is : nameSize (front u name n ++ rest) ≡ length name
+      size-is : nameSize (recordFront u name n ++ rest) ≡ length name
       size-is = rw front-header at size
 
-  pub front-kept : 1 ≤ length name → modeOf u .permits n ≡ true → length (front u name n ++ rest) ≡ endAt (modeOf u) (length name) n → Kept (front u name n ++ rest)
+  pub front-kept : 1 ≤ length name → modeOf u .permits n ≡ true → length (recordFront u name n ++ rest) ≡ endAt (modeOf u) (length name) n → Kept (recordFront u name n ++ rest)
   front-kept named permitted whole =
       rw front-header at
       (header-kept u (length name) n (name ++ rest) short (omega (arith, few)) named permitted (ap length front-header ∙ whole))
@@ -133,8 +133,8 @@ module _ (r : List ℕ) (bytes : Bytes r) (layout : layoutOk r ≡ true) where
   unfolding nameIn
   name-bytes = refl
 
-  pub front-back : frontIn r ≡ front (modeIn r) (nameIn r) (countIn r)
-  unfolding frontIn front
+  pub front-back : frontIn r ≡ recordFront (modeIn r) (nameIn r) (countIn r)
+  unfolding frontIn recordFront
   front-back =
       take-add nameAt (nameSize r) r
       ∙ ap₂ (λ (s l : List ℕ). s ++ l) (sym header-back) name-bytes

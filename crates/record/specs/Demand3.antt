@@ -42,9 +42,9 @@ OneOpening = (t r a out : List ℕ) (count : ℕ) (p p′ : List ℕ) → Opens 
 
 -- it refuses: not 0, and neither the output nor the count has changed
 pub record Refuses (t r a out : List ℕ) (count : ℕ) : Type 0 where
-  pub number : ℕ
-  pub not-zero : number ≡ 0 → ⊥
-  pub answers : openAnswer t r a out count ≡ ((number, out), count)
+  pub refusal : ℕ
+  pub not-zero : refusal ≡ 0 → ⊥
+  pub answers : openAnswer t r a out count ≡ ((refusal, out), count)
 
 -- where there is none, whatever the output
 abbrev pub ElseRefuses : Type 0

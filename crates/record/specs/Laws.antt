@@ -1,4 +1,4 @@
--- What the records promise beside demand 3, as statements; proofs/Laws.antt and proofs/SessionLaws.antt prove them.
+-- What the records promise beside demand 3, as statements; proofs/Laws.antt, Sealed.antt, Earlier.antt and SessionLaws.antt prove them.
 -- Assumes nothing.
 use mathlib.Core.Path.{_≡_}
 use mathlib.Core.Logic.{_↔_}
@@ -11,17 +11,17 @@ use Rattle.octets.specs.Bytes.{Bytes}
 use Rattle.octets.specs.Lent.{over}
 use Rattle.octets.specs.Lowest.{rises}
 use Rattle.octets.specs.Unique.{Unique, UniqueBy}
-use Rattle.keytable.specs.Row.{nameMax, useOf, keyOf}
+use Rattle.keytable.specs.Row.{nameMax, useOf, rowKey}
 use Rattle.keytable.specs.Table.{tableOk, dataRow}
 use Rattle.modes.specs.Calls.{textMax}
 use Rattle.modes.specs.Modes.{namesMode, modeOf}
-use Rattle.session.specs.Iv.{isSpent, ivOf, after}
-use Rattle.session.specs.Calls.{Answer, sessionAfter}
+use Rattle.session.specs.Iv.{isSpent, ivOf, nextSession}
+use Rattle.session.specs.Calls.{SessionAnswer, sessionAfter}
 use Rattle.session.specs.declared.Session.{Session}
-use Rattle.record.specs.Record.{modeIn, countIn, nameSize, endIn, layoutOk, frontIn, nameIn, ivIn, front}
-use Rattle.record.specs.Read.{readTests, headerSays, readNumber, readAnswer}
+use Rattle.record.specs.Record.{modeIn, countIn, nameSize, endIn, layoutOk, frontIn, nameIn, ivIn, recordFront}
+use Rattle.record.specs.Read.{headerTests, headerSays, headerNumber, headerAnswer}
 use Rattle.record.specs.Seal.{callersMax, recordOf, sealedSize, sealTests, sealAnswer}
-use Rattle.record.specs.Open.{tagTests, openTests, openAnswer}
+use Rattle.record.specs.Open.{recordTagTests, openTests, openAnswer}
 use Rattle.record.specs.Next.{sealedSays, sealNextTests, sealNextAnswer}
 
 -- ---- the header, there and back
@@ -34,37 +34,37 @@ pub record ReadBack (u n : ℕ) (name r : List ℕ) : Type 0 where
   pub name-is : nameIn r ≡ name
 
 abbrev pub HeaderThere : Type 0
-HeaderThere = (u n : ℕ) (name rest : List ℕ) → length name ≤ nameMax → n ≤ textMax → ReadBack u n name (front u name n ++ rest)
+HeaderThere = (u n : ℕ) (name rest : List ℕ) → length name ≤ nameMax → n ≤ textMax → ReadBack u n name (recordFront u name n ++ rest)
 
 -- the first 24+k bytes of a record that keeps to the layout are the header written from its fields, and its name
 abbrev pub HeaderBack : Type 0
-HeaderBack = (r : List ℕ) → Bytes r → layoutOk r ≡ true → frontIn r ≡ front (modeIn r) (nameIn r) (countIn r)
+HeaderBack = (r : List ℕ) → Bytes r → layoutOk r ≡ true → frontIn r ≡ recordFront (modeIn r) (nameIn r) (countIn r)
 
 -- ---- sealing in range
 
 -- an accepted table with a row of the name, whose use is a mode; a name, an IV and n bytes of plaintext that document 01 permits; and room for the record
-pub record InRange (ok : Bool) (found : Option (List ℕ)) (name iv a : List ℕ) (n room : ℕ) : Type 0 where
+pub record SealInRange (ok : Bool) (found : Option (List ℕ)) (name iv a : List ℕ) (n room : ℕ) : Type 0 where
   pub accepted : ok ≡ true
-  pub row : List ℕ
-  pub has-row : found ≡ some row
-  pub mode : namesMode (useOf row) ≡ true
-  pub named : 1 ≤ length name
-  pub iv-size : length iv ≡ modeOf (useOf row) .ivSize
-  pub permitted : modeOf (useOf row) .permits n ≡ true
+  pub found-row : List ℕ
+  pub found-is : found ≡ some found-row
+  pub names-mode : namesMode (useOf found-row) ≡ true
+  pub name-given : 1 ≤ length name
+  pub iv-size : length iv ≡ modeOf (useOf found-row) .ivSize
+  pub permitted : modeOf (useOf found-row) .permits n ≡ true
   pub name-fits : length name ≤ nameMax
   pub text-fits : n ≤ textMax
   pub data-fits : length a ≤ callersMax
-  pub room-fits : sealedSize (some row) name n ≤ room
+  pub room-fits : sealedSize (some found-row) name n ≤ room
 
 -- sealing then gives 0, and the record of the row's use and key over the front of the output; and 0 in no other case
 abbrev pub SealsInRange : Type 0
 SealsInRange =
-    (t name iv a p out : List ℕ) (h : InRange (tableOk t) (dataRow t name) name iv a (length p) (length out))
-    → sealAnswer t name iv a p out ≡ (0, over (recordOf (useOf (h .row)) (keyOf (h .row)) name iv a p) out)
+    (t name iv a p out : List ℕ) (h : SealInRange (tableOk t) (dataRow t name) name iv a (length p) (length out))
+    → sealAnswer t name iv a p out ≡ (0, over (recordOf (useOf (h .found-row)) (rowKey (h .found-row)) name iv a p) out)
 
 abbrev pub SealsOnlyInRange : Type 0
 SealsOnlyInRange =
-    (t name iv a p out : List ℕ) → sealAnswer t name iv a p out .0 ≡ 0 → InRange (tableOk t) (dataRow t name) name iv a (length p) (length out)
+    (t name iv a p out : List ℕ) → sealAnswer t name iv a p out .0 ≡ 0 → SealInRange (tableOk t) (dataRow t name) name iv a (length p) (length out)
 
 -- ---- "Between two accepted tables with the same row for a name, or both with none, the other rows change no answer for that name"
 
@@ -87,7 +87,7 @@ NextOtherRows =
 -- the result's end and their own after it
 
 pub record Alike (size : ℕ) (out out′ : List ℕ) (x x′ : ℕ × List ℕ) : Type 0 where
-  pub number : x .0 ≡ x′ .0
+  pub one-number : x .0 ≡ x′ .0
   pub result : x .0 ≡ 0 → take size (x .1) ≡ take size (x′ .1)
   pub rest : x .0 ≡ 0 → drop size (x .1) ≡ drop size out
   pub rest′ : x .0 ≡ 0 → drop size (x′ .1) ≡ drop size out′
@@ -135,7 +135,7 @@ abbrev pub NextAdvances : Type 0
 NextAdvances =
     (s : Session) (t name a p out : List ℕ)
     → let x = sealNextAnswer s t name a p out in
-    (x .0 ≡ 0 → x .2 ≡ after s) × (x .0 ≡ 0 ↔ (x .2 ≡ s → ⊥))
+    (x .0 ≡ 0 → x .2 ≡ nextSession s) × (x .0 ≡ 0 ↔ (x .2 ≡ s → ⊥))
 
 -- "After any but 0, each lent buffer and session is unchanged"
 abbrev pub NextRefused : Type 0
@@ -152,42 +152,42 @@ pub record Lent : Type 0 where
   pub plain : List ℕ
   pub out : List ℕ
 
-abbrev pub sealNext : Session → Lent → Answer
+abbrev pub sealNext : Session → Lent → SessionAnswer
 sealNext s l = sealNextAnswer s (l .table) (l .name) (l .aad) (l .plain) (l .out)
 
 -- the session before call number i, from 0; that call; and the record that it wrote where it gave 0
-abbrev pub before : (ℕ → Lent) → Session → ℕ → Session
-before lent s zero = s
-before lent s (suc i) = sealNext (before lent s i) (lent i) .2
+abbrev pub sealBefore : (ℕ → Lent) → Session → ℕ → Session
+sealBefore lent s zero = s
+sealBefore lent s (suc i) = sealNext (sealBefore lent s i) (lent i) .2
 
-abbrev pub call : (ℕ → Lent) → Session → ℕ → Answer
-call lent s i = sealNext (before lent s i) (lent i)
+abbrev pub sealCall : (ℕ → Lent) → Session → ℕ → SessionAnswer
+sealCall lent s i = sealNext (sealBefore lent s i) (lent i)
 
 abbrev pub written : (ℕ → Lent) → Session → ℕ → List ℕ
-written lent s i = take (sealedSize (dataRow (lent i .table) (lent i .name)) (lent i .name) (length (lent i .plain))) (call lent s i .1)
+written lent s i = take (sealedSize (dataRow (lent i .table) (lent i .name)) (lent i .name) (length (lent i .plain))) (sealCall lent s i .1)
 
 -- "So one session's IVs all differ": the records of one session have different IVs, whatever was lent and whatever was refused between them
 abbrev pub RecordsDiffer : Type 0
 RecordsDiffer =
-    (s : Session) (lent : ℕ → Lent) (i j : ℕ) → s .next < 2 ^ 64 → call lent s i .0 ≡ 0 → call lent s j .0 ≡ 0
+    (s : Session) (lent : ℕ → Lent) (i j : ℕ) → s .next < 2 ^ 64 → sealCall lent s i .0 ≡ 0 → sealCall lent s j .0 ≡ 0
     → ivIn (written lent s i) ≡ ivIn (written lent s j) → i ≡ j
 
 -- ---- for each input one answer, and one state of what is lent
 
-abbrev pub ReadUnique : Type 0
-ReadUnique = (r : List ℕ) → UniqueBy headerSays (readAnswer r)
+abbrev pub HeaderUnique : Type 0
+HeaderUnique = (r : List ℕ) → UniqueBy headerSays (headerAnswer r)
 
 abbrev pub EndUnique : Type 0
 EndUnique = (r : List ℕ) → Unique (endIn r)
 
-abbrev pub CheckUnique : Type 0
-CheckUnique = (r : List ℕ) → Unique (readNumber r)
+abbrev pub RecordCheckUnique : Type 0
+RecordCheckUnique = (r : List ℕ) → Unique (headerNumber r)
 
 abbrev pub SealUnique : Type 0
 SealUnique = (t name iv a p out : List ℕ) → Unique (sealAnswer t name iv a p out)
 
-abbrev pub OpenUnique : Type 0
-OpenUnique = (t r a out : List ℕ) (count : ℕ) → Unique (openAnswer t r a out count)
+abbrev pub RecordOpenUnique : Type 0
+RecordOpenUnique = (t r a out : List ℕ) (count : ℕ) → Unique (openAnswer t r a out count)
 
 abbrev pub SealByUnique : Type 0
 SealByUnique = (s : Session) (t name a p out : List ℕ) → UniqueBy sealedSays (sealNextAnswer s t name a p out)
@@ -197,14 +197,14 @@ SealNextUnique = (s : Session) (t name a p out : List ℕ) → Unique (sealNextA
 
 -- ---- "The lowest that applies is given": the numbers of each list of tests rise
 
-abbrev pub ReadTestsRise : Type 0
-ReadTestsRise = (r : List ℕ) → rises (readTests r) ≡ true
+abbrev pub HeaderTestsRise : Type 0
+HeaderTestsRise = (r : List ℕ) → rises (headerTests r) ≡ true
 
 abbrev pub SealTestsRise : Type 0
 SealTestsRise = (ok : Bool) (row : Option (List ℕ)) (name iv a : List ℕ) (n room : ℕ) → rises (sealTests ok row name iv a n room) ≡ true
 
-abbrev pub TagTestsRise : Type 0
-TagTestsRise = (key r a : List ℕ) → rises (tagTests key r a) ≡ true
+abbrev pub RecordTagTestsRise : Type 0
+RecordTagTestsRise = (key r a : List ℕ) → rises (recordTagTests key r a) ≡ true
 
 abbrev pub OpenTestsRise : Type 0
 OpenTestsRise = (ok : Bool) (row : Option (List ℕ)) (r a : List ℕ) (room : ℕ) → rises (openTests ok row r a room) ≡ true

@@ -7,7 +7,7 @@ use mathlib.Core.Option.{Option, some, none}
 use lib.ListN.{length}
 use lib.Dec.{eqb, ltb}
 use Rattle.octets.specs.Lent.{Tests, lowest, kept, answer}
-use Rattle.keytable.specs.Row.{keyOf}
+use Rattle.keytable.specs.Row.{rowKey}
 use Rattle.keytable.specs.Table.{tableOk, dataRow}
 use Rattle.keytable.specs.Calls.{missing, useIn}
 use Rattle.modes.specs.Modes.{namesMode}
@@ -24,15 +24,19 @@ plaintextBy key r = modeFor r .plaintext key (ivIn r) (textIn r)
 
 abbrev pub authenticIn : Option (List ℕ) → List ℕ → List ℕ → Bool
 authenticIn none r a = false
-authenticIn (some row) r a = authenticBy (keyOf row) r a
+authenticIn (some row) r a = authenticBy (rowKey row) r a
 
 abbrev pub plaintextIn : Option (List ℕ) → List ℕ → List ℕ
 plaintextIn none r = []
-plaintextIn (some row) r = plaintextBy (keyOf row) r
+plaintextIn (some row) r = plaintextBy (rowKey row) r
 
 -- the tag by itself
-abbrev pub tagTests : List ℕ → List ℕ → List ℕ → Tests
-tagTests key r a = (9, not (authenticBy key r a)) ∷ []
+abbrev pub recordTagTests : List ℕ → List ℕ → List ℕ → Tests
+recordTagTests key r a = (9, not (authenticBy key r a)) ∷ []
+
+-- what the tag decides, with room for the plaintext
+abbrev pub tagAnswer : List ℕ → List ℕ → List ℕ → List ℕ → ℕ × List ℕ
+tagAnswer key r a out = answer (lowest (recordTagTests key r a)) (plaintextBy key r) out
 
 abbrev pub openTests : Bool → Option (List ℕ) → List ℕ → List ℕ → ℕ → Tests
 openTests ok row r a room =

@@ -16,11 +16,11 @@ use Rattle.record.specs.declared.header.Header.the-variants.{Fields, Bad
 abbrev pub passes : ℕ → ℕ → Bool
 passes k n = ltb nameMax k || ltb textMax n
 
-abbrev pub readTests : List ℕ → Tests
-readTests r = (2, not (layoutOk r)) ∷ (3, not (namesMode (modeIn r))) ∷ (4, passes (nameSize r) (countIn r)) ∷ []
+abbrev pub headerTests : List ℕ → Tests
+headerTests r = (2, not (layoutOk r)) ∷ (3, not (namesMode (modeIn r))) ∷ (4, passes (nameSize r) (countIn r)) ∷ []
 
-unfoldable pub readNumber : List ℕ → ℕ
-readNumber r = lowest (readTests r)
+unfoldable pub headerNumber : List ℕ → ℕ
+headerNumber r = lowest (headerTests r)
 
 -- what each case of the reader's answer says: a number, and the fields that come with 0
 abbrev pub headerSays : Header → ℕ × List ℕ
@@ -29,5 +29,5 @@ headerSays BadForm = (2, [])
 headerSays BadMode = (3, [])
 headerSays TooLong = (4, [])
 
-unfoldable pub readAnswer : List ℕ → ℕ × List ℕ
-readAnswer r = (readNumber r, kept (readNumber r) (modeIn r ∷ nameSize r ∷ countIn r ∷ []) [])
+unfoldable pub headerAnswer : List ℕ → ℕ × List ℕ
+headerAnswer r = (headerNumber r, kept (headerNumber r) (modeIn r ∷ nameSize r ∷ countIn r ∷ []) [])

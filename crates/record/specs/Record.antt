@@ -97,5 +97,5 @@ header u k n =
     ++ be 4 (textAt (modeOf u) k)
     ++ be 4 (tagAt (modeOf u) k n)
 
-unfoldable pub front : ℕ → List ℕ → ℕ → List ℕ
-front u name n = header u (length name) n ++ name
+unfoldable pub recordFront : ℕ → List ℕ → ℕ → List ℕ
+recordFront u name n = header u (length name) n ++ name

@@ -1,21 +1,23 @@
 -- Sealing (document 01, "Record"): "Sealing is given table, name, IV, associated data and plaintext; the row's use is the mode."
 -- Assumes nothing.
-use Prim.Native.Nat.{ℕ}
-use mathlib.Core.Bool.{Bool, not, _||_}
+use mathlib.Core.Path.{_≡_}
+use Prim.Native.Nat.{ℕ, _≤_}
+use mathlib.Core.Bool.{Bool, true, not, _||_}
 use mathlib.Core.List.{List, [], _∷_, _++_}
 use mathlib.Core.Option.{Option, some, none}
 use lib.ListN.{length}
 use lib.Dec.{eqb, ltb}
 use Rattle.octets.specs.Lent.{Tests, isNot, lowest, kept, answer}
-use Rattle.keytable.specs.Row.{useOf, keyOf}
+use Rattle.keytable.specs.Row.{nameMax, rowKeySize, useOf, rowKey}
 use Rattle.keytable.specs.Table.{tableOk, dataRow, rowAt}
 use Rattle.keytable.specs.Calls.{missing, useIn}
 use Rattle.modes.specs.Mode.{sealed}
+use Rattle.modes.specs.Calls.{textMax}
 use Rattle.modes.specs.Modes.{namesMode, modeOf}
-use Rattle.record.specs.Record.{endAt, front}
+use Rattle.record.specs.Record.{endAt, recordFront}
 use Rattle.record.specs.Read.{passes}
-use Rattle.record.specs.declared.sealing.Ready.{Ready}
-use Rattle.record.specs.declared.sealing.Ready.the-variants.{At, Refused}
+use Rattle.record.specs.declared.sealing.SealReady.{SealReady}
+use Rattle.record.specs.declared.sealing.SealReady.the-variants.{At, Refused}
 
 -- "Caller's associated data 0 to 4,096"
 abbrev pub callersMax : ℕ
@@ -24,15 +26,25 @@ callersMax = 4096
 -- "The mode's associated data is the first 24+k bytes of the record, then the caller's": the record of a use and a key
 unfoldable pub recordOf : ℕ → List ℕ → List ℕ → List ℕ → List ℕ → List ℕ → List ℕ
 recordOf u key name iv a p =
-    front u name (length p) ++ (iv ++ sealed (modeOf u) key iv (front u name (length p) ++ a) p)
+    recordFront u name (length p) ++ (iv ++ sealed (modeOf u) key iv (recordFront u name (length p) ++ a) p)
 
 abbrev pub recordBy : Option (List ℕ) → List ℕ → List ℕ → List ℕ → List ℕ → List ℕ
 recordBy none name iv a p = []
-recordBy (some row) name iv a p = recordOf (useOf row) (keyOf row) name iv a p
+recordBy (some row) name iv a p = recordOf (useOf row) (rowKey row) name iv a p
 
 -- "52+k+n": the bytes that sealing n bytes by a row fills; without a row, CCM's
 abbrev pub sealedSize : Option (List ℕ) → List ℕ → ℕ → ℕ
 sealedSize row name n = endAt (modeOf (useIn row)) (length name) n
+
+-- the record of that row, where there is one
+abbrev pub recordFor : List ℕ → List ℕ → List ℕ → List ℕ → List ℕ → List ℕ
+recordFor t name iv a p = recordBy (dataRow t name) name iv a p
+
+-- what the record of a use and a key takes: lengths that the mode and document 01 permit, and room
+abbrev pub Fillable : ℕ → List ℕ → List ℕ → List ℕ → List ℕ → List ℕ → List ℕ → Type 0
+Fillable u key name iv a p out =
+    (length key ≡ rowKeySize) × (length name ≤ nameMax) × (length iv ≡ modeOf u .ivSize) × (modeOf u .permits (length p) ≡ true)
+    × (length a ≤ callersMax) × (length p ≤ textMax) × (endAt (modeOf u) (length name) (length p) ≤ length out)
 
 -- sealing n bytes into so much room: of the plaintext its length alone is looked at
 abbrev pub sealTests : Bool → Option (List ℕ) → List ℕ → List ℕ → List ℕ → ℕ → ℕ → Tests
@@ -49,11 +61,11 @@ unfoldable pub sealNumber : Bool → Option (List ℕ) → List ℕ → List ℕ
 sealNumber ok row name iv a n room = lowest (sealTests ok row name iv a n room)
 
 -- the tests by themselves: each case's number, and the row that comes with 0
-abbrev pub readyNumber : Ready → ℕ
+abbrev pub readyNumber : SealReady → ℕ
 readyNumber (At i) = 0
 readyNumber (Refused n) = n
 
-abbrev pub readyRow : List ℕ → Ready → Option (List ℕ)
+abbrev pub readyRow : List ℕ → SealReady → Option (List ℕ)
 readyRow t (At i) = some (rowAt t i)
 readyRow t (Refused n) = none
 

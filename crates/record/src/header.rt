@@ -1,11 +1,24 @@
 // A record's header, read and written. Sums are made in 64 bits, so that no count makes them come round.
+use crate::sizes::COUNT_AT;
+use crate::sizes::FORMAT_AT;
+use crate::sizes::FRONT_MAX;
+use crate::sizes::IV_LENGTH_AT;
+use crate::sizes::IV_OFFSET_AT;
+use crate::sizes::MODE_AT;
 use crate::sizes::NAME_AT;
+use crate::sizes::NAME_LENGTH_AT;
 use crate::sizes::NAME_MAX;
+use crate::sizes::NAME_OFFSET_AT;
 use crate::sizes::RECORD_FORMAT;
+use crate::sizes::TAG_OFFSET_AT;
 use crate::sizes::TEXT_MAX;
+use crate::sizes::TEXT_OFFSET_AT;
+use crate::sizes::ZERO_AT;
 use modes::iv_size;
 use modes::names_mode;
 use modes::tag_size;
+use octets::big_endian::bytes16;
+use octets::big_endian::bytes32;
 use octets::big_endian::read8;
 use octets::big_endian::read16;
 use octets::big_endian::read32;
@@ -17,8 +30,8 @@ ghost use lib.ListN.{length, replicate};
 ghost use Rattle.octets.specs.Lent.{over};
 ghost use Rattle.keytable.specs.Row.{nameMax};
 ghost use Rattle.modes.specs.Calls.{textMax};
-ghost use Rattle.record.specs.Record.{modeIn, endIn, layoutOk, header, front};
-ghost use Rattle.record.specs.Read.{passes, headerSays, readNumber, readAnswer};
+ghost use Rattle.record.specs.Record.{modeIn, endIn, layoutOk, header, recordFront};
+ghost use Rattle.record.specs.Read.{passes, headerSays, headerNumber, headerAnswer};
 
 // What reading a record's header finds.
 pub enum Header {
@@ -32,10 +45,10 @@ pub enum Header {
 fn mode_in(r: &[u8]) -> u8
     ensures { λ u. ⌜ u ≡ modeIn (now (r .entry)) ⌝ }
 {
-    if r.len() < 3 {
+    if r.len() <= MODE_AT {
         return 0;
     }
-    r[2]
+    r[MODE_AT]
 }
 
 // The place of the tag, n bytes after that of the ciphertext: a 32-bit sum would come round where n is FFFFFFFFh.
@@ -51,9 +64,9 @@ pub fn end_in(r: &[u8]) -> usize
     ensures { λ e. ⌜ e ≡ endIn (now (r .entry)) ⌝ }
 {
     let mode = mode_in(r);
-    let k = read16(r, 10);
+    let k = read16(r, NAME_LENGTH_AT);
     let text_at = NAME_AT + k + iv_size(mode);
-    let tag_at = tag_place(text_at, read32(r, 4));
+    let tag_at = tag_place(text_at, read32(r, COUNT_AT));
     tag_at + tag_size(mode)
 }
 
@@ -63,20 +76,20 @@ fn layout_ok(r: &[u8]) -> bool
 {
     let mode = mode_in(r);
     let iv_long = iv_size(mode);
-    let n = read32(r, 4);
-    let k = read16(r, 10);
+    let n = read32(r, COUNT_AT);
+    let k = read16(r, NAME_LENGTH_AT);
     let iv_at = NAME_AT + k;
     let text_at = iv_at + iv_long;
     let tag_at = tag_place(text_at, n);
     let end_at = end_in(r);
-    (read16(r, 0) == RECORD_FORMAT)
-        & (read8(r, 3) == 0)
-        & (read16(r, 8) == NAME_AT)
+    (read16(r, FORMAT_AT) == RECORD_FORMAT)
+        & (read8(r, ZERO_AT) == 0)
+        & (read16(r, NAME_OFFSET_AT) == NAME_AT)
         & (1 <= k)
-        & (read16(r, 12) == iv_at)
-        & (read16(r, 14) == iv_long)
-        & (read32(r, 16) == text_at)
-        & (read32(r, 20) == tag_at)
+        & (read16(r, IV_OFFSET_AT) == iv_at)
+        & (read16(r, IV_LENGTH_AT) == iv_long)
+        & (read32(r, TEXT_OFFSET_AT) == text_at)
+        & (read32(r, TAG_OFFSET_AT) == tag_at)
         & (r.len() == end_at)
 }
 
@@ -89,7 +102,7 @@ pub(crate) fn passes_maximum(k: usize, n: usize) -> bool
 
 // Reads a record's header.
 pub fn read(r: &[u8]) -> Header
-    ensures { λ h. ⌜ headerSays h ≡ readAnswer (now (r .entry)) ⌝ }
+    ensures { λ h. ⌜ headerSays h ≡ headerAnswer (now (r .entry)) ⌝ }
 {
     if !layout_ok(r) {
         return Header::BadForm;
@@ -98,8 +111,8 @@ pub fn read(r: &[u8]) -> Header
     if !names_mode(mode) {
         return Header::BadMode;
     }
-    let k = read16(r, 10);
-    let n = read32(r, 4);
+    let k = read16(r, NAME_LENGTH_AT);
+    let n = read32(r, COUNT_AT);
     if passes_maximum(k, n) {
         return Header::TooLong;
     }
@@ -124,13 +137,13 @@ pub(crate) fn number_of(h: Header) -> u8
 
 // The record by itself: 0, or 2, 3 or 4.
 pub fn check(r: &[u8]) -> u8
-    ensures { λ n. ⌜ n ≡ readNumber (now (r .entry)) ⌝ }
+    ensures { λ n. ⌜ n ≡ headerNumber (now (r .entry)) ⌝ }
 {
     number_of(read(r))
 }
 
 // The 24 bytes of a header.
-fn header_of(u: u8, k: usize, n: usize) -> [u8; 24]
+fn header_of(u: u8, k: usize, n: usize) -> [u8; NAME_AT]
     requires { ⌜ (k ≤ nameMax) × (n ≤ textMax) ⌝ }
     ensures { λ r. ⌜ r ≡ header u k n ⌝ }
 {
@@ -138,31 +151,39 @@ fn header_of(u: u8, k: usize, n: usize) -> [u8; 24]
     let iv_at = NAME_AT + k;
     let text_at = iv_at + iv_long;
     let tag_at = text_at + n;
+    let format = bytes16(RECORD_FORMAT);
+    let count = bytes32(n);
+    let name_place = bytes16(NAME_AT);
+    let name_long = bytes16(k);
+    let iv_place = bytes16(iv_at);
+    let iv_bytes = bytes16(iv_long);
+    let text_place = bytes32(text_at);
+    let tag_place = bytes32(tag_at);
     [
-        0,
-        1,
+        format[0],
+        format[1],
         u,
         0,
-        (n / 16777216 % 256) as u8,
-        (n / 65536 % 256) as u8,
-        (n / 256 % 256) as u8,
-        (n % 256) as u8,
-        0,
-        24,
-        (k / 256 % 256) as u8,
-        (k % 256) as u8,
-        (iv_at / 256 % 256) as u8,
-        (iv_at % 256) as u8,
-        (iv_long / 256 % 256) as u8,
-        (iv_long % 256) as u8,
-        (text_at / 16777216 % 256) as u8,
-        (text_at / 65536 % 256) as u8,
-        (text_at / 256 % 256) as u8,
-        (text_at % 256) as u8,
-        (tag_at / 16777216 % 256) as u8,
-        (tag_at / 65536 % 256) as u8,
-        (tag_at / 256 % 256) as u8,
-        (tag_at % 256) as u8,
+        count[0],
+        count[1],
+        count[2],
+        count[3],
+        name_place[0],
+        name_place[1],
+        name_long[0],
+        name_long[1],
+        iv_place[0],
+        iv_place[1],
+        iv_bytes[0],
+        iv_bytes[1],
+        text_place[0],
+        text_place[1],
+        text_place[2],
+        text_place[3],
+        tag_place[0],
+        tag_place[1],
+        tag_place[2],
+        tag_place[3],
     ]
 }
 
@@ -177,11 +198,11 @@ pub(crate) fn put_both(first: &[u8], second: &[u8], out: &mut [u8])
 }
 
 // What a record has before its IV, and zeros after it.
-pub(crate) fn front_of(u: u8, name: &[u8], n: usize) -> [u8; 56]
+pub(crate) fn front_of(u: u8, name: &[u8], n: usize) -> [u8; FRONT_MAX]
     requires { ⌜ (length (now name) ≤ nameMax) × (n ≤ textMax) ⌝ }
-    ensures { λ r. ⌜ r ≡ over (front u (now (name .entry)) n) (replicate 56 0) ⌝ }
+    ensures { λ r. ⌜ r ≡ over (recordFront u (now (name .entry)) n) (replicate 56 0) ⌝ }
 {
-    let mut room = [0u8; 56];
+    let mut room = [0u8; FRONT_MAX];
     let h = header_of(u, name.len(), n);
     put_both(&h, name, &mut room);
     room

@@ -1,8 +1,9 @@
 // Sealing with a session: one call takes the session's next IV and seals with it, and the session advances exactly when the answer is 0.
-use crate::sealing::Ready;
+use crate::sealing::SealReady;
 use crate::sealing::number_of;
-use crate::sealing::test;
+use crate::sealing::ready_to_seal;
 use crate::sealing::write;
+use session::IV_SIZE;
 use session::Issued;
 use session::Session;
 use session::advance;
@@ -16,7 +17,7 @@ pub struct Sealed {
 }
 
 // The IV that a session gave.
-fn iv_of(issued: Issued) -> [u8; 12]
+fn iv_of(issued: Issued) -> [u8; IV_SIZE]
     ensures { λ r. ⌜ r ≡ issued .iv ⌝ }
 {
     let iv = issued.iv;
@@ -38,8 +39,8 @@ pub fn seal_by(
     let number = issued.number;
     let iv = iv_of(issued);
     let session = issued.session;
-    let r = test(table, name, &iv, aad, plain.len(), out.len());
-    let Ready::At(at) = r else {
+    let r = ready_to_seal(table, name, &iv, aad, plain.len(), out.len());
+    let SealReady::At(at) = r else {
         return Sealed {
             number: number_of(r),
             session: s,

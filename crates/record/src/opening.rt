@@ -16,16 +16,15 @@ ghost use mathlib.Core.Path.{_≡_};
 ghost use mathlib.Core.List.{[], _∷_};
 ghost use Prim.Native.Nat.{_≤_};
 ghost use lib.ListN.{length};
-ghost use Rattle.octets.specs.Lent.{lowest, answer};
-ghost use Rattle.keytable.specs.Row.{keySize};
-ghost use Rattle.record.specs.Read.{readAnswer};
+ghost use Rattle.keytable.specs.Row.{rowKeySize};
+ghost use Rattle.record.specs.Read.{headerAnswer};
 ghost use Rattle.record.specs.Seal.{callersMax};
-ghost use Rattle.record.specs.Open.{tagTests, plaintextBy, openAnswer};
+ghost use Rattle.record.specs.Open.{tagAnswer, openAnswer};
 
 // Takes a record that was read apart, and decrypts it by a key: 9, or 0 with the plaintext.
 fn open_by(key: &[u8], r: &[u8], mode: u8, k: usize, n: usize, aad: &[u8], out: &mut [u8]) -> u8
-    requires { ⌜ (readAnswer (now r) ≡ (0, mode ∷ k ∷ n ∷ [])) × (length (now key) ≡ keySize) × (length (now aad) ≤ callersMax) × (n ≤ length (now out)) ⌝ }
-    ensures { λ x. ⌜ answer (lowest (tagTests (now (key .entry)) (now (r .entry)) (now (aad .entry)))) (plaintextBy (now (key .entry)) (now (r .entry))) (now (out .entry)) ≡ (x, now (out .exit)) ⌝ }
+    requires { ⌜ (headerAnswer (now r) ≡ (0, mode ∷ k ∷ n ∷ [])) × (length (now key) ≡ rowKeySize) × (length (now aad) ≤ callersMax) × (n ≤ length (now out)) ⌝ }
+    ensures { λ x. ⌜ tagAnswer (now (key .entry)) (now (r .entry)) (now (aad .entry)) (now (out .entry)) ≡ (x, now (out .exit)) ⌝ }
 {
     let iv_long = iv_size(mode);
     let tag_long = tag_size(mode);

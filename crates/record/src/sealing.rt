@@ -14,30 +14,23 @@ use modes::names_mode;
 use modes::tag_size;
 use octets::strings::part;
 ghost use mathlib.Core.Path.{_≡_};
-ghost use mathlib.Core.Bool.{true};
 ghost use mathlib.Core.Option.{some};
-ghost use Prim.Native.Nat.{_≤_};
 ghost use lib.ListN.{length};
 ghost use Rattle.octets.specs.Lent.{over};
-ghost use Rattle.keytable.specs.Row.{nameMax, keySize};
-ghost use Rattle.keytable.specs.Table.{dataRow, rowAt};
+ghost use Rattle.keytable.specs.Table.{rowAt};
 ghost use Rattle.keytable.specs.Calls.{useIn};
 ghost use Rattle.keytable.specs.Find.{rowFound};
-ghost use Rattle.modes.specs.Calls.{textMax};
-ghost use Rattle.modes.specs.Modes.{modeOf};
-ghost use Rattle.record.specs.Record.{endAt};
-ghost use Rattle.record.specs.Seal.{callersMax, recordOf, recordBy, readyNumber, readyRow, readyAnswer, sealAnswer};
+ghost use Rattle.record.specs.Seal.{recordOf, recordFor, Fillable, readyNumber, readyRow, readyAnswer, sealAnswer};
 
 // What the tests of sealing find: the place of the name's row, or the lowest number that applies.
-pub(crate) enum Ready {
+pub(crate) enum SealReady {
     At(usize),
     Refused(u8),
 }
 
 // Writes the record of a use and a key.
 fn fill(u: u8, key: &[u8], name: &[u8], iv: &[u8], aad: &[u8], plain: &[u8], out: &mut [u8])
-    requires { ⌜ (length (now key) ≡ keySize) × (length (now name) ≤ nameMax) × (length (now iv) ≡ modeOf u .ivSize)
-        × (modeOf u .permits (length (now plain)) ≡ true) × (length (now aad) ≤ callersMax) × (length (now plain) ≤ textMax) × (endAt (modeOf u) (length (now name)) (length (now plain)) ≤ length (now out)) ⌝ }
+    requires { ⌜ Fillable u (now key) (now name) (now iv) (now aad) (now plain) (now out) ⌝ }
     ensures { λ _. ⌜ now (out .exit) ≡ over (recordOf u (now (key .entry)) (now (name .entry)) (now (iv .entry)) (now (aad .entry)) (now (plain .entry))) (now (out .entry)) ⌝ }
 {
     let room = front_of(u, name, plain.len());
@@ -59,40 +52,47 @@ fn use_found(table: &[u8], f: Found) -> u8
 }
 
 // Every test of sealing n bytes into so much room.
-pub(crate) fn test(table: &[u8], name: &[u8], iv: &[u8], aad: &[u8], n: usize, room: usize) -> Ready
+pub(crate) fn ready_to_seal(
+    table: &[u8],
+    name: &[u8],
+    iv: &[u8],
+    aad: &[u8],
+    n: usize,
+    room: usize,
+) -> SealReady
     ensures { λ r. ⌜ readyAnswer (now (table .entry)) (now (name .entry)) (now (iv .entry)) (now (aad .entry)) n room ≡ (readyNumber r, readyRow (now (table .entry)) r) ⌝ }
 {
     let Table::Rows(_) = keytable::check(table) else {
-        return Ready::Refused(1);
+        return SealReady::Refused(1);
     };
     let found = keytable::find(table, name);
     let u = use_found(table, found);
     let iv_long = iv_size(u);
     if (name.len() == 0) | (iv.len() != iv_long) {
-        return Ready::Refused(2);
+        return SealReady::Refused(2);
     }
     if passes_maximum(name.len(), n) | (CALLERS_MAX < aad.len()) {
-        return Ready::Refused(4);
+        return SealReady::Refused(4);
     }
     if room < NAME_AT + name.len() + iv_long + n + tag_size(u) {
-        return Ready::Refused(5);
+        return SealReady::Refused(5);
     }
     let Found::At(at) = found else {
-        return Ready::Refused(6);
+        return SealReady::Refused(6);
     };
     if !names_mode(u) {
-        return Ready::Refused(7);
+        return SealReady::Refused(7);
     }
-    Ready::At(at)
+    SealReady::At(at)
 }
 
 // The number of what the tests found.
-pub(crate) fn number_of(r: Ready) -> u8
+pub(crate) fn number_of(r: SealReady) -> u8
     ensures { λ n. ⌜ n ≡ readyNumber r ⌝ }
 {
     match r {
-        Ready::At(_) => 0,
-        Ready::Refused(n) => n,
+        SealReady::At(_) => 0,
+        SealReady::Refused(n) => n,
     }
 }
 
@@ -107,7 +107,7 @@ pub(crate) fn write(
     out: &mut [u8],
 )
     requires { ⌜ readyAnswer (now table) (now name) (now iv) (now aad) (length (now plain)) (length (now out)) ≡ (0, some (rowAt (now table) at)) ⌝ }
-    ensures { λ _. ⌜ now (out .exit) ≡ over (recordBy (dataRow (now (table .entry)) (now (name .entry))) (now (name .entry)) (now (iv .entry)) (now (aad .entry)) (now (plain .entry))) (now (out .entry)) ⌝ }
+    ensures { λ _. ⌜ now (out .exit) ≡ over (recordFor (now (table .entry)) (now (name .entry)) (now (iv .entry)) (now (aad .entry)) (now (plain .entry))) (now (out .entry)) ⌝ }
 {
     let u = use_at(table, at);
     fill(u, key_at(table, at), name, iv, aad, plain, out);
@@ -117,8 +117,8 @@ pub(crate) fn write(
 pub fn seal(table: &[u8], name: &[u8], iv: &[u8], aad: &[u8], plain: &[u8], out: &mut [u8]) -> u8
     ensures { λ r. ⌜ sealAnswer (now (table .entry)) (now (name .entry)) (now (iv .entry)) (now (aad .entry)) (now (plain .entry)) (now (out .entry)) ≡ (r, now (out .exit)) ⌝ }
 {
-    let r = test(table, name, iv, aad, plain.len(), out.len());
-    let Ready::At(at) = r else {
+    let r = ready_to_seal(table, name, iv, aad, plain.len(), out.len());
+    let SealReady::At(at) = r else {
         return number_of(r);
     };
     write(table, at, name, iv, aad, plain, out);

@@ -13,9 +13,9 @@ use Rattle.octets.specs.Lent.{over}
 use Rattle.octets.proofs.BigEndian.{length-be}
 use Rattle.octets.proofs.Lent.{over-fits, over-whole}
 use Rattle.octets.proofs.Unique.{unique, unique-by}
-use Rattle.session.specs.Iv.{prefixSize, fieldSize, ivSize, withFields, started, isSpent, ivOf, after}
-use Rattle.session.specs.Calls.{Answer, advanceNumber, advanceAnswer, issuedSays, issueNumber, issueAnswer}
-use Rattle.session.specs.Laws.{Run, advanced, AdvanceGives, AdvanceEnds, AdvancesDiffer, held, call, IssueGives, IssueEnds, IssuesDiffer, IssueRefused, SpentGives}
+use Rattle.session.specs.Iv.{prefixSize, fieldSize, sessionIvSize, withFields, started, isSpent, ivOf, nextSession}
+use Rattle.session.specs.Calls.{SessionAnswer, advanceNumber, advanceAnswer, issuedSays, issueNumber, issueAnswer}
+use Rattle.session.specs.Laws.{SessionRun, advanced, AdvanceGives, AdvanceEnds, AdvancesDiffer, issueBefore, issueCall, IssueGives, IssueEnds, IssuesDiffer, IssueRefused, SpentGives}
 use Rattle.session.specs.Laws.{nearEnd, LastTwo, LastTwoHeld, AdvanceTestsRise, IssueTestsRise, StartUnique, AdvanceUnique, IssueUnique}
 use Rattle.session.specs.declared.Session.{Session}
 use Rattle.session.proofs.Calls.{advance-spent, advance-done, advance-moves, advance-live, issue-spent, issue-done, issue-moves, issue-live}
@@ -23,16 +23,16 @@ use Rattle.session.proofs.Runs.{ended, run-at, run-ends, run-prefix, ru
 
 -- ---- by value
 
-advances : (s : Session) → Run (advanced s) (λ i. advanceAnswer (advanced s i) .0)
+advances : (s : Session) → SessionRun (advanced s) (λ i. advanceAnswer (advanced s i) .0)
 advances s = record { moves = λ i. advance-moves (advanced s i); live = λ i. advance-live (advanced s i) }
 
 -- its IV where it gives one
 advance-iv : (s : Session) → advanceAnswer s .0 ≡ 0 → ivOf s ≡ advanceAnswer s .1
-advance-iv s e = sym (ap (λ (a : Answer). a .1) (advance-done s (advance-live s e)))
+advance-iv s e = sym (ap (λ (a : SessionAnswer). a .1) (advance-done s (advance-live s e)))
 
 -- and a session that is not spent gives one
 advance-ready : (s : Session) → isSpent s ≡ false → advanceAnswer s .0 ≡ 0
-advance-ready s live = ap (λ (a : Answer). a .0) (advance-done s live)
+advance-ready s live = ap (λ (a : SessionAnswer). a .0) (advance-done s live)
 
 module _ (prefix : List ℕ) (start : ℕ) where
   abbrev turn : ℕ → Session
@@ -48,7 +48,7 @@ pub advance-gives : AdvanceGives
 advance-gives prefix start i h =
     let at = turn-at prefix start i h in
     let e = advance-done (advanced (started prefix start) i) (ap isSpent at) in
-    e ∙ ap₂ (λ (iv : List ℕ) (s : Session). (0, iv, s)) (ap ivOf at) (sym (ap (λ (a : Answer). a .2) e))
+    e ∙ ap₂ (λ (iv : List ℕ) (s : Session). (0, iv, s)) (ap ivOf at) (sym (ap (λ (a : SessionAnswer). a .2) e))
 
 pub advance-ends : AdvanceEnds
 advance-ends prefix start i below past = advance-spent (advanced (started prefix start) i) (ap isSpent (turn-ends prefix start i below past))
@@ -60,38 +60,38 @@ advances-differ prefix start i j below hi hj e =
 
 -- ---- where the caller holds it
 
-calls : (outs : ℕ → List ℕ) (s : Session) → Run (held outs s) (λ i. call outs s i .0)
-calls outs s = record { moves = λ i. issue-moves (held outs s i) (outs i); live = λ i e. issue-live (held outs s i) (outs i) e .1 }
+calls : (outs : ℕ → List ℕ) (s : Session) → SessionRun (issueBefore outs s) (λ i. issueCall outs s i .0)
+calls outs s = record { moves = λ i. issue-moves (issueBefore outs s i) (outs i); live = λ i e. issue-live (issueBefore outs s i) (outs i) e .1 }
 
-pub length-iv : (s : Session) → length (s .prefix) ≡ prefixSize → length (ivOf s) ≡ ivSize
+pub length-iv : (s : Session) → length (s .prefix) ≡ prefixSize → length (ivOf s) ≡ sessionIvSize
 length-iv s h = length-append (s .prefix) (be fieldSize (s .next)) ∙ ap₂ _+_ h (length-be fieldSize (s .next))
 
 -- the IV written over the front
-iv-over : (s : Session) (out : List ℕ) → length (s .prefix) ≡ prefixSize → ivSize ≤ length out → over (ivOf s) out ≡ ivOf s ++ drop ivSize out
+iv-over : (s : Session) (out : List ℕ) → length (s .prefix) ≡ prefixSize → sessionIvSize ≤ length out → over (ivOf s) out ≡ ivOf s ++ drop sessionIvSize out
 iv-over s out h room =
     let l = length-iv s h in
     over-fits (ivOf s) out (omega (arith, l)) ∙ ap (λ (n : ℕ). ivOf s ++ drop n out) l
 
-issue-iv : (s : Session) (out : List ℕ) → length (s .prefix) ≡ prefixSize → issueAnswer s out .0 ≡ 0 → take ivSize (issueAnswer s out .1) ≡ ivOf s
+issue-iv : (s : Session) (out : List ℕ) → length (s .prefix) ≡ prefixSize → issueAnswer s out .0 ≡ 0 → take sessionIvSize (issueAnswer s out .1) ≡ ivOf s
 issue-iv s out h e =
     let (room, live) = issue-live s out e in
-    ap (take ivSize) (ap (λ (a : Answer). a .1) (issue-done s out room live) ∙ iv-over s out h (ltb-false (length out) ivSize room))
-    ∙ take-at (ivOf s) (drop ivSize out) ivSize (length-iv s h)
+    ap (take sessionIvSize) (ap (λ (a : SessionAnswer). a .1) (issue-done s out room live) ∙ iv-over s out h (ltb-false (length out) sessionIvSize room))
+    ∙ take-at (ivOf s) (drop sessionIvSize out) sessionIvSize (length-iv s h)
 
-issue-ready : (s : Session) (out : List ℕ) → ivSize ≤ length out → isSpent s ≡ false → issueAnswer s out .0 ≡ 0
-issue-ready s out room live = ap (λ (a : Answer). a .0) (issue-done s out (le-ltb (length out) ivSize room) live)
+issue-ready : (s : Session) (out : List ℕ) → sessionIvSize ≤ length out → isSpent s ≡ false → issueAnswer s out .0 ≡ 0
+issue-ready s out room live = ap (λ (a : SessionAnswer). a .0) (issue-done s out (le-ltb (length out) sessionIvSize room) live)
 
 module _ (prefix : List ℕ) (start : ℕ) (outs : ℕ → List ℕ) where
   abbrev stand : ℕ → Session
-  stand = held outs (started prefix start)
+  stand = issueBefore outs (started prefix start)
 
   abbrev answered : ℕ → ℕ
-  answered k = call outs (started prefix start) k .0
+  answered k = issueCall outs (started prefix start) k .0
 
   stand-prefix : (i : ℕ) → stand i .prefix ≡ prefix
   stand-prefix = run-prefix stand answered (calls outs (started prefix start))
 
-  module _ (room : (j : ℕ) → ivSize ≤ length (outs j)) where
+  module _ (room : (j : ℕ) → sessionIvSize ≤ length (outs j)) where
     stand-at : (i : ℕ) → start + i < 2 ^ 64 → stand i ≡ started prefix (start + i)
     stand-at = run-at stand answered (calls outs (started prefix start)) prefix start refl (λ i. issue-ready (stand i) (outs i) (room i))
 
@@ -101,21 +101,21 @@ module _ (prefix : List ℕ) (start : ℕ) (outs : ℕ → List ℕ) where
 pub issue-gives : IssueGives
 issue-gives prefix start outs i size room h =
     let at = stand-at prefix start outs room i h in
-    let s = held outs (started prefix start) i in
-    let e = issue-done s (outs i) (le-ltb (length (outs i)) ivSize (room i)) (ap isSpent at) in
+    let s = issueBefore outs (started prefix start) i in
+    let e = issue-done s (outs i) (le-ltb (length (outs i)) sessionIvSize (room i)) (ap isSpent at) in
     let bytes = iv-over s (outs i) (ap (λ (p : Session). length (p .prefix)) at ∙ size) (room i) in
-    e ∙ ap₂ (λ (l : List ℕ) (t : Session). (0, l, t)) (bytes ∙ ap (λ (t : Session). ivOf t ++ drop ivSize (outs i)) at) (sym (ap (λ (a : Answer). a .2) e))
+    e ∙ ap₂ (λ (l : List ℕ) (t : Session). (0, l, t)) (bytes ∙ ap (λ (t : Session). ivOf t ++ drop sessionIvSize (outs i)) at) (sym (ap (λ (a : SessionAnswer). a .2) e))
 
 pub issue-ends : IssueEnds
 issue-ends prefix start outs i room below past =
-    issue-spent (held outs (started prefix start) i) (outs i) (le-ltb (length (outs i)) ivSize (room i)) (ap isSpent (stand-ends prefix start outs room i below past))
+    issue-spent (issueBefore outs (started prefix start) i) (outs i) (le-ltb (length (outs i)) sessionIvSize (room i)) (ap isSpent (stand-ends prefix start outs room i below past))
 
 pub issues-differ : IssuesDiffer
 issues-differ prefix start outs i j size below hi hj e =
-    run-differs (held outs (started prefix start)) _ (calls outs (started prefix start)) below i j hi hj (sym (given i hi) ∙ e ∙ given j hj)
+    run-differs (issueBefore outs (started prefix start)) _ (calls outs (started prefix start)) below i j hi hj (sym (given i hi) ∙ e ∙ given j hj)
   where
-    given : (k : ℕ) → call outs (started prefix start) k .0 ≡ 0 → take ivSize (call outs (started prefix start) k .1) ≡ ivOf (held outs (started prefix start) k)
-    given k = issue-iv (held outs (started prefix start) k) (outs k) (ap length (stand-prefix prefix start outs k) ∙ size)
+    given : (k : ℕ) → issueCall outs (started prefix start) k .0 ≡ 0 → take sessionIvSize (issueCall outs (started prefix start) k .1) ≡ ivOf (issueBefore outs (started prefix start) k)
+    given k = issue-iv (issueBefore outs (started prefix start) k) (outs k) (ap length (stand-prefix prefix start outs k) ∙ size)
 
 pub issue-refused : IssueRefused
 unfolding issueAnswer
@@ -123,7 +123,7 @@ issue-refused s out h = rw (ne-eqb (issueNumber s out) 0 h)
 
 pub spent-gives : SpentGives
 spent-gives prefix out next spent h room =
-    issue-spent (withFields prefix next spent) out (le-ltb (length out) ivSize room) (ap not (ne-eqb spent 0 h))
+    issue-spent (withFields prefix next spent) out (le-ltb (length out) sessionIvSize room) (ap not (ne-eqb spent 0 h))
 
 -- ---- the last two
 
@@ -132,10 +132,10 @@ unfolding advanceAnswer advanceNumber
 last-two prefix = (refl, refl, refl)
 
 -- into twelve bytes an IV is given as by value
-issue-whole : (s : Session) (out : List ℕ) → length (s .prefix) ≡ prefixSize → length out ≡ ivSize → isSpent s ≡ false → issueAnswer s out ≡ advanceAnswer s
+issue-whole : (s : Session) (out : List ℕ) → length (s .prefix) ≡ prefixSize → length out ≡ sessionIvSize → isSpent s ≡ false → issueAnswer s out ≡ advanceAnswer s
 issue-whole s out size room live =
-    issue-done s out (le-ltb (length out) ivSize (omega (arith, room))) live
-    ∙ ap (λ (l : List ℕ). (0, l, after s)) (over-whole (ivOf s) out (length-iv s size ∙ sym room))
+    issue-done s out (le-ltb (length out) sessionIvSize (omega (arith, room))) live
+    ∙ ap (λ (l : List ℕ). (0, l, nextSession s)) (over-whole (ivOf s) out (length-iv s size ∙ sym room))
     ∙ sym (advance-done s live)
 
 pub last-two-held : LastTwoHeld
@@ -144,7 +144,7 @@ last-two-held prefix a b c size ha hb hc =
     let two = last-two prefix in (
       issue-whole (nearEnd prefix) a size ha refl ∙ two .0,
       issue-whole (advanced (nearEnd prefix) 1) b size hb refl ∙ two .1,
-      issue-spent (advanced (nearEnd prefix) 2) c (le-ltb (length c) ivSize (omega (arith, hc))) refl,
+      issue-spent (advanced (nearEnd prefix) 2) c (le-ltb (length c) sessionIvSize (omega (arith, hc))) refl,
     )
 
 -- ---- the lowest
@@ -161,7 +161,7 @@ pub start-unique : StartUnique
 start-unique prefix start = unique (started prefix start)
 
 pub advance-unique : AdvanceUnique
-advance-unique s = unique-by issuedSays (λ (t : Answer). record { number = t .0; iv = t .1; session = t .2 }) (λ r. refl) (advanceAnswer s)
+advance-unique s = unique-by issuedSays (λ (t : SessionAnswer). record { number = t .0; iv = t .1; session = t .2 }) (λ r. refl) (advanceAnswer s)
 
 pub issue-unique : IssueUnique
 issue-unique s out = unique (issueAnswer s out)

@@ -14,9 +14,9 @@ use borrow.Author.Tests.{eqb-true, eqb-false, ne-eqb}
 use Rattle.octets.specs.BigEndian.{be}
 use Rattle.octets.specs.Lent.{when}
 use Rattle.octets.proofs.BigEndian.{be-injective}
-use Rattle.session.specs.Iv.{fieldSize, lastField, withFields, started, isSpent, ivOf, after}
+use Rattle.session.specs.Iv.{fieldSize, lastField, withFields, started, isSpent, ivOf, nextSession}
 use Rattle.session.specs.Calls.{sessionAfter}
-use Rattle.session.specs.Laws.{Run, RunDiffers}
+use Rattle.session.specs.Laws.{SessionRun, RunDiffers}
 use Rattle.session.specs.declared.Session.{Session}
 use Rattle.session.proofs.Calls.{after-last, after-next, prefix-stays}
 
@@ -26,14 +26,14 @@ refused-same : (n : ℕ) (s : Session) → (n ≡ 0 → ⊥) → sessionAfter n 
 refused-same n s h = rw (ne-eqb n 0 h)
 
 -- by cases, what holds of the session before a call and of the one after an IV holds of the session after the call
-after-cases : (P : Session → Type 0) (n : ℕ) (s : Session) → (n ≡ 0 → P (after s)) → P s → P (sessionAfter n s)
+after-cases : (P : Session → Type 0) (n : ℕ) (s : Session) → (n ≡ 0 → P (nextSession s)) → P s → P (sessionAfter n s)
 after-cases P n s done same = go (eqb n 0) refl
   where
-    go : (b : Bool) → eqb n 0 ≡ b → P (when b (after s) s)
+    go : (b : Bool) → eqb n 0 ≡ b → P (when b (nextSession s) s)
     go true e = done (eqb-true n 0 e)
     go false e = same
 
-iv-cases : (P : Session → Type 0) (s : Session) → P (withFields (s .prefix) (s .next) 1) → ((s .next ≡ lastField → ⊥) → P (withFields (s .prefix) (s .next + 1) 0)) → P (after s)
+iv-cases : (P : Session → Type 0) (s : Session) → P (withFields (s .prefix) (s .next) 1) → ((s .next ≡ lastField → ⊥) → P (withFields (s .prefix) (s .next + 1) 0)) → P (nextSession s)
 iv-cases P s last more = go (eqb (s .next) lastField) refl
   where
     go : (b : Bool) → eqb (s .next) lastField ≡ b → P (when b (withFields (s .prefix) (s .next) 1) (withFields (s .prefix) (s .next + 1) 0))
@@ -46,7 +46,7 @@ ended p = withFields p lastField 1
 
 -- ---- a run
 
-module _ (before : ℕ → Session) (number : ℕ → ℕ) (run : Run before number) where
+module _ (before : ℕ → Session) (number : ℕ → ℕ) (run : SessionRun before number) where
   -- the prefix stays, and the next number keeps to its eight bytes
   pub run-prefix : (i : ℕ) → before i .prefix ≡ before 0 .prefix
   run-prefix zero = refl
@@ -64,7 +64,7 @@ module _ (before : ℕ → Session) (number : ℕ → ℕ) (run : Run before num
   abbrev Past : ℕ → Session → Type 0
   Past m s = (isSpent s ≡ true) ⊎ (m < s .next)
 
-  past-iv : (m : ℕ) (s : Session) → m ≤ s .next → Past m (after s)
+  past-iv : (m : ℕ) (s : Session) → m ≤ s .next → Past m (nextSession s)
   past-iv m s h = iv-cases (Past m) s (inl refl) (λ more. inr (omega (arith, h)))
 
   past-live : (m : ℕ) (s : Session) → isSpent s ≡ false → Past m s → m < s .next

@@ -15,8 +15,8 @@ prefixSize = 4
 abbrev pub fieldSize : ℕ
 fieldSize = 8
 
-abbrev pub ivSize : ℕ
-ivSize = 12
+abbrev pub sessionIvSize : ℕ
+sessionIvSize = 12
 
 -- the last invocation field, 2^64 - 1
 abbrev pub lastField : ℕ
@@ -38,5 +38,5 @@ abbrev pub ivOf : Session → List ℕ
 ivOf s = s .prefix ++ be fieldSize (s .next)
 
 -- "while s+i is below 2^64": the session after that IV has the next number, and is spent where there is none
-abbrev pub after : Session → Session
-after s = when (eqb (s .next) lastField) (withFields (s .prefix) (s .next) 1) (withFields (s .prefix) (s .next + 1) 0)
+abbrev pub nextSession : Session → Session
+nextSession s = when (eqb (s .next) lastField) (withFields (s .prefix) (s .next) 1) (withFields (s .prefix) (s .next + 1) 0)

@@ -5,13 +5,19 @@ use octets::strings::put;
 ghost use mathlib.Core.Path.{_≡_};
 ghost use mathlib.Core.List.{_++_};
 ghost use Rattle.octets.specs.BigEndian.{be};
-ghost use Rattle.session.specs.Iv.{prefixSize, fieldSize, withFields, started, after};
+ghost use Rattle.session.specs.Iv.{prefixSize, fieldSize, withFields, started, nextSession};
 ghost use Rattle.session.specs.Calls.{advanceAnswer, issuedSays, issueAnswer};
+
+pub const PREFIX_SIZE: usize = 4;
+
+pub const IV_SIZE: usize = 12;
+
+const LAST_FIELD: u64 = 0xffffffffffffffff;
 
 // The fixed field, the next invocation field, and whether the last IV has been given: any value of `spent` but 0 says so.
 #[repr(C)]
 pub struct Session {
-    pub prefix: [u8; 4],
+    pub prefix: [u8; PREFIX_SIZE],
     pub next: u64,
     pub spent: u8,
 }
@@ -19,7 +25,7 @@ pub struct Session {
 // What an issue by value gives: the number, the IV (zeros after any number but 0), and the session after it.
 pub struct Issued {
     pub number: u8,
-    pub iv: [u8; 12],
+    pub iv: [u8; IV_SIZE],
     pub session: Session,
 }
 
@@ -29,12 +35,8 @@ pub(crate) struct Outcome {
     session: Session,
 }
 
-const IV_SIZE: usize = 12;
-
-const LAST_FIELD: u64 = 0xffffffffffffffff;
-
 // The session of these fields.
-pub(crate) fn with_fields(prefix: [u8; 4], next: u64, spent: u8) -> Session
+pub(crate) fn with_fields(prefix: [u8; PREFIX_SIZE], next: u64, spent: u8) -> Session
     ensures { λ s. ⌜ s ≡ withFields prefix next spent ⌝ }
 {
     Session {
@@ -45,7 +47,7 @@ pub(crate) fn with_fields(prefix: [u8; 4], next: u64, spent: u8) -> Session
 }
 
 // A session that has given no IV.
-pub fn start(prefix: [u8; 4], first: u64) -> Session
+pub fn start(prefix: [u8; PREFIX_SIZE], first: u64) -> Session
     ensures { λ s. ⌜ s ≡ started prefix first ⌝ }
 {
     with_fields(prefix, first, 0)
@@ -59,7 +61,7 @@ pub fn start_numbered(prefix: u32, first: u64) -> Session
 }
 
 // The prefix, then the eight bytes of n.
-fn iv_of(prefix: [u8; 4], n: u64) -> [u8; 12]
+fn iv_of(prefix: [u8; PREFIX_SIZE], n: u64) -> [u8; IV_SIZE]
     ensures { λ iv. ⌜ iv ≡ prefix ++ be fieldSize n ⌝ }
 {
     let field = bytes64(n);
@@ -80,8 +82,8 @@ fn iv_of(prefix: [u8; 4], n: u64) -> [u8; 12]
 }
 
 // The session after the IV of n.
-fn after_iv(prefix: [u8; 4], n: u64) -> Session
-    ensures { λ s. ⌜ s ≡ after (started prefix n) ⌝ }
+fn after_iv(prefix: [u8; PREFIX_SIZE], n: u64) -> Session
+    ensures { λ s. ⌜ s ≡ nextSession (started prefix n) ⌝ }
 {
     if n == LAST_FIELD {
         return with_fields(prefix, n, 1);
@@ -99,7 +101,7 @@ pub fn advance(s: Session) -> Issued
     if spent != 0 {
         return Issued {
             number: 10,
-            iv: [0; 12],
+            iv: [0; IV_SIZE],
             session: s,
         };
     }

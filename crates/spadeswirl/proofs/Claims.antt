@@ -21,7 +21,7 @@ use Rattle.modes.specs.Modes.{namesMode}
 use Rattle.record.specs.Record.{modeIn, countIn, nameSize, nameIn, header}
 use Rattle.record.specs.Read.{passes}
 use Rattle.record.specs.Seal.{callersMax}
-use Rattle.record.proofs.Numbers.{open-four}
+use Rattle.record.proofs.OpenNumbers.{open-four}
 use Rattle.record.proofs.Parts.{Kept, kept-layout}
 use Rattle.record.proofs.Written.{header-mode, header-count, header-size, header-kept}
 use Rattle.spadeswirl.specs.Claims.{SboxValues, Product, Doubled, CcmFlags, DataLength, LeastRecord, GreatestRecord, OneByteMore, claims, EachHolds}

@@ -1,6 +1,6 @@
 // Records: sealed, opened, and checked by themselves.
 ghost use mathlib.Core.Path.{_≡_};
-ghost use Rattle.record.specs.Read.{readNumber};
+ghost use Rattle.record.specs.Read.{headerNumber};
 ghost use Rattle.record.specs.Seal.{sealAnswer};
 ghost use Rattle.record.specs.Open.{openAnswer};
 
@@ -33,7 +33,7 @@ pub extern "C" fn spadeswirl_open(
 
 #[no_mangle]
 pub extern "C" fn spadeswirl_record_check(sealed: &[u8]) -> u8
-    ensures { λ x. ⌜ x ≡ readNumber (now (sealed .entry)) ⌝ }
+    ensures { λ x. ⌜ x ≡ headerNumber (now (sealed .entry)) ⌝ }
 {
     record::header::check(sealed)
 }

@@ -13,7 +13,7 @@ use session::start_numbered;
 ghost use mathlib.Core.Path.{_≡_};
 ghost use mathlib.Core.Bool.{false};
 ghost use Rattle.descriptors.specs.Tested.{listNumber};
-ghost use Rattle.descriptors.specs.Steps.{after};
+ghost use Rattle.descriptors.specs.Steps.{cursorAfter};
 ghost use Rattle.session.specs.Calls.{advanceAnswer};
 
 const PREFIX: u32 = 1;
@@ -50,7 +50,7 @@ fn show(list: &[u8], place: Cursor) {
 
 // Shows the next `count` descriptors, and answers the place after them.
 fn show_all(list: &[u8], first: Cursor, count: usize) -> Cursor
-    ensures { λ r. ⌜ r ≡ after count (now (list .entry)) first ⌝ }
+    ensures { λ r. ⌜ r ≡ cursorAfter count (now (list .entry)) first ⌝ }
 {
     let mut place = first;
     let mut left = count;

@@ -5,23 +5,23 @@ use mathlib.Core.List.{List}
 use Prim.Native.Nat.{ℕ, zero, suc, _-_, _≤_, _<_}
 use native.Mathlib.Omega.{arith}
 use borrow.Author.Needs.{needs}
-use Rattle.descriptors.specs.Steps.{advanceOf, after}
+use Rattle.descriptors.specs.Steps.{advanceOf, cursorAfter}
 use Rattle.descriptors.specs.declared.cursor.Cursor.{Cursor}
 use Rattle.descriptors.specs.declared.cursor.Advance.{Advance}
 use Rattle.walkthrough.proofs.show_all.Statement.{statement}
 use Rattle.walkthrough.proofs.show_all.Tie as tie
 
 abbrev Inv-loop : tie.InvT-loop
-Inv-loop list count place₀ left₀ place left = after left list place ≡ after left₀ list place₀
+Inv-loop list count place₀ left₀ place left = cursorAfter left list place ≡ cursorAfter left₀ list place₀
 
 abbrev μ-loop : tie.MeasureT-loop
 μ-loop list count place₀ left₀ place left = left
 
-step : (n : ℕ) (s : List ℕ) (c : Cursor) (a : Advance) → a ≡ advanceOf s c → 0 < n → after (n - 1) s (a .next) ≡ after n s c
+step : (n : ℕ) (s : List ℕ) (c : Cursor) (a : Advance) → a ≡ advanceOf s c → 0 < n → cursorAfter (n - 1) s (a .next) ≡ cursorAfter n s c
 step zero s c a e h = absurd (omega (arith, h))
-step (suc n) s c a e h = let less : suc n - 1 ≡ n = omega arith in ap₂ (λ (k : ℕ) (b : Advance). after k s (b .next)) less e
+step (suc n) s c a e h = let less : suc n - 1 ≡ n = omega arith in ap₂ (λ (k : ℕ) (b : Advance). cursorAfter k s (b .next)) less e
 
-none : (n : ℕ) (s : List ℕ) (c : Cursor) → n ≤ 0 → c ≡ after n s c
+none : (n : ℕ) (s : List ℕ) (c : Cursor) → n ≤ 0 → c ≡ cursorAfter n s c
 none zero s c h = refl
 none (suc n) s c h = absurd (omega (arith, h))
 

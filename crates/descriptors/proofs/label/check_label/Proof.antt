@@ -22,14 +22,14 @@ returns-2 : tie.Need-returns-2
 returns-2 c =
     let at-test = c .before .before in
     let s = at-test .before .before .before .before .before .args .label .now in
-    let bad = refused-tells true false (listOf s) _ (at-test .test .ensures ∙ ap (listAnswer true false) (at-test .before .rest .ensures)) (c .enum-told .given .1) in
+    let bad = refused-tells true false (listOf s) _ (at-test .check-list .ensures ∙ ap (listAnswer true false) (at-test .before .rest .ensures)) (c .enum-told .given .1) in
     sym (label-refused s (label-list s (shape (at-test .before .before)) ∙ bad))
 
 returns-3 : tie.Need-returns-3
 returns-3 c =
     let at-test = c .before .before .before .before in
     let s = at-test .before .before .before .before .before .args .label .now in
-    let answer = at-test .test .ensures ∙ ap (listAnswer true false) (at-test .before .rest .ensures) in
+    let answer = at-test .check-list .ensures ∙ ap (listAnswer true false) (at-test .before .rest .ensures) in
     let (ok, is) = counted-tells true false (listOf s) _ answer _ (c .before .before .n .given .1) in
     sym (label-long s (label-list s (shape (at-test .before .before)) ∙ ok) (c .if2 .taken))
 
@@ -37,7 +37,7 @@ returns-4 : tie.Need-returns-4
 returns-4 c =
     let at-test = c .before .before .before .before in
     let s = at-test .before .before .before .before .before .args .label .now in
-    let answer = at-test .test .ensures ∙ ap (listAnswer true false) (at-test .before .rest .ensures) in
+    let answer = at-test .check-list .ensures ∙ ap (listAnswer true false) (at-test .before .rest .ensures) in
     let (ok, is) = counted-tells true false (listOf s) _ answer _ (c .before .before .n .given .1) in
     sym (label-accepted s _ (label-list s (shape (at-test .before .before)) ∙ ok) (c .if2 .left) is)
 

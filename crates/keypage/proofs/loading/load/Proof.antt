@@ -10,10 +10,10 @@ use Rattle.keytable.specs.Table.{tableOk}
 use Rattle.keytable.proofs.Calls.{rows-accepted, broken-refused}
 use Rattle.keypage.specs.Page.{algorithmIn, formatIn, keyPart, fieldsOk}
 use Rattle.keypage.specs.KeyPart.{partRefused}
-use Rattle.keypage.specs.Read.{readNumber}
+use Rattle.keypage.specs.Read.{pageReadNumber}
 use Rattle.keypage.specs.Load.{rowNamed, partAnswer}
-use Rattle.keypage.proofs.ReadNumbers.{accepted, list-good}
-use Rattle.keypage.proofs.LoadNumbers.{load-one, load-unread, load-five, load-refused, load-zero}
+use Rattle.keypage.proofs.ReadNumbers.{read-passed, list-good}
+use Rattle.keypage.proofs.LoadNumbers.{load-one, load-unread, load-five, load-refused, load-done}
 use borrow.Author.Needs.{needs}
 use Rattle.keypage.proofs.loading.load.Statement.{statement}
 use Rattle.keypage.proofs.loading.load.Tie as tie
@@ -28,7 +28,7 @@ table-good c = rows-accepted _ _ _ (c .before .before .check .ensures) (c .enum-
 abbrev page : tie.Else1 → List ℕ
 page c = start (c .before .before) .args .p .now
 
-readable : (c : tie.Else1) → readNumber (page c) ≡ 0
+readable : (c : tie.Else1) → pageReadNumber (page c) ≡ 0
 readable c = sym (c .before .check2 .ensures) ∙ c .if1 .left
 
 of-its-part : (c : tie.After-key-part) (test : ℕ → List ℕ → Bool) → let p = page (c .before .before .before .before) in
@@ -36,9 +36,10 @@ of-its-part : (c : tie.After-key-part) (test : ℕ → List ℕ → Bool) → le
 of-its-part c test = ap₂ test (c .before .read82 .ensures .0) (c .key-part .ensures)
 
 -- and what was loaded from it
-of-its-page : (c : tie.After-key-part) (z : ℕ × List ℕ) → let a = start (c .before .before .before .before .before .before) .args in
-    partAnswer (rowNamed (a .table .now) (c .before .read82 .result) (c .key-part .result .now)) (c .before .before .read8 .result) (c .before .read82 .result) (c .key-part .result .now) (a .out .now) ≡ z
-    → partAnswer (rowNamed (a .table .now) (formatIn (a .p .now)) (keyPart (a .p .now))) (algorithmIn (a .p .now)) (formatIn (a .p .now)) (keyPart (a .p .now)) (a .out .now) ≡ z
+of-its-page : (c : tie.After-key-part) (z : ℕ × List ℕ)
+    → let a = start (c .before .before .before .before .before .before) .args in let f = c .before .read82 .result in let s = c .key-part .result .now in let p = a .p .now in
+    partAnswer (rowNamed (a .table .now) f s) (c .before .before .read8 .result) f s (a .out .now) ≡ z
+    → partAnswer (rowNamed (a .table .now) (formatIn p) (keyPart p)) (algorithmIn p) (formatIn p) (keyPart p) (a .out .now) ≡ z
 of-its-page c z e = rw (← c .before .before .read8 .ensures .0, ← c .before .read82 .ensures .0, ← c .key-part .ensures) e
 
 -- the place of the last test before the KEY part
@@ -59,9 +60,9 @@ load-part-requires c κs =
     let at-part = c .before in
     let past = at-part .before .before .before in
     let p = page (past .before) in
-    let passed = accepted p (readable (past .before)) in (
+    let passed = read-passed p (readable (past .before)) in (
       table-good (past .before .before .before),
-      of-its-part at-part partRefused ∙ or-right (not (fieldsOk p)) (partRefused (formatIn p) (keyPart p)) (passed .1),
+      of-its-part at-part partRefused ∙ or-right (not (fieldsOk p)) (partRefused (formatIn p) (keyPart p)) (passed .permitted),
       past .if2 .left,
     )
 
@@ -78,7 +79,7 @@ fields-of-requires c κs = list-good _ (readable (past (c .before .before .befor
 returns-5 : tie.Need-returns-5
 returns-5 c =
     let at-load = c .before .before .before .before in
-    load-zero _ _ _ _ _ (table-good (past at-load .before .before .before)) (readable (past at-load .before)) (le-ltb _ _ (past at-load .if2 .left)) _ _
+    load-done _ _ _ _ _ (table-good (past at-load .before .before .before)) (readable (past at-load .before)) (le-ltb _ _ (past at-load .if2 .left)) _ _
     (of-its-page (at-load .before .before) _ (at-load .load-part .ensures))
     (c .before .if3 .left) _ (c .fields-of .ensures)
 

@@ -4,7 +4,7 @@ use mathlib.Core.Path.{_≡_, sym, ap, _∙_}
 use mathlib.Core.List.{List}
 use Prim.Native.Nat.{ℕ}
 use Rattle.keypage.specs.Load.{rowNamed, partAnswer}
-use Rattle.keypage.proofs.ByFormat.{third-format}
+use Rattle.keypage.proofs.KeyPart.{known, third-format}
 use Rattle.keypage.proofs.LoadNumbers.{plain-zero}
 use borrow.Author.Needs.{needs}
 use Rattle.keypage.proofs.loading.load_part.Statement.{statement}
@@ -14,13 +14,14 @@ abbrev start : tie.After-slice-known → tie.Start
 start c = c .before .before .before
 
 wrapped-format : (c : tie.Else2) → start (c .before .before) .args .format ≡ 4
-wrapped-format c = third-format _ (start (c .before .before) .args .s .now) (start (c .before .before) .pre .1) (c .before .if1 .left) (c .if2 .left)
+wrapped-format c = third-format _ (known _ (start (c .before .before) .args .s .now) (start (c .before .before) .pre .1)) (c .before .if1 .left) (c .if2 .left)
 
 returns : tie.Need-returns
 returns c =
     let at-put = c .before .before in
     let a = start (at-put .before .before .before) .args in
-    plain-zero (rowNamed (a .table .now) (a .format) (a .s .now)) (a .algorithm) (a .s .now) (a .out .now) (a .format) (at-put .before .before .if1 .taken) ∙ ap (λ (l : List ℕ). (0, l)) (sym (at-put .put .ensures))
+    plain-zero (rowNamed (a .table .now) (a .format) (a .s .now)) (a .algorithm) (a .s .now) (a .out .now) (a .format) (at-put .before .before .if1 .taken)
+    ∙ ap (λ (l : List ℕ). (0, l)) (sym (at-put .put .ensures))
 
 load-reference-requires : tie.Need-load-reference-requires
 load-reference-requires c κs =

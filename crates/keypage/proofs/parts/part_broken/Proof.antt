@@ -3,7 +3,7 @@
 use mathlib.Core.Path.{sym, ap, _∙_}
 use mathlib.Core.Bool.{not}
 use Rattle.keypage.specs.KeyPart.{partBroken}
-use Rattle.keypage.proofs.ByFormat.{of-plain, of-reference, of-wrapped, of-other}
+use Rattle.keypage.proofs.KeyPart.{of-plain, of-reference, of-wrapped, of-other}
 use borrow.Author.Needs.{needs}
 use Rattle.keypage.proofs.parts.part_broken.Statement.{statement}
 use Rattle.keypage.proofs.parts.part_broken.Tie as tie

@@ -4,7 +4,7 @@ use mathlib.Core.Path.{sym, ap, _∙_}
 use lib.Dec.{ltb}
 use Rattle.keytable.specs.Row.{nameMax}
 use Rattle.keypage.specs.KeyPart.{partLong}
-use Rattle.keypage.proofs.ByFormat.{of-plain, of-reference, of-wrapped, of-other}
+use Rattle.keypage.proofs.KeyPart.{of-plain, of-reference, of-wrapped, of-other}
 use borrow.Author.Needs.{needs}
 use Rattle.keypage.proofs.parts.part_long.Statement.{statement}
 use Rattle.keypage.proofs.parts.part_long.Tie as tie

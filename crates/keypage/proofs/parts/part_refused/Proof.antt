@@ -5,7 +5,7 @@ use mathlib.Core.Bool.{not, _||_}
 use Prim.Native.Nat.{ℕ}
 use lib.Dec.{eqb}
 use Rattle.keypage.specs.KeyPart.{partRefused}
-use Rattle.keypage.proofs.ByFormat.{of-plain, of-reference, of-wrapped, of-other}
+use Rattle.keypage.proofs.KeyPart.{of-plain, of-reference, of-wrapped, of-other}
 use borrow.Author.Needs.{needs}
 use Rattle.keypage.proofs.parts.part_refused.Statement.{statement}
 use Rattle.keypage.proofs.parts.part_refused.Tie as tie

@@ -9,7 +9,7 @@ use lib.ListN.{length}
 use Rattle.keypage.specs.Page.{pageMax, formatIn, keyPart}
 use Rattle.keypage.specs.KeyPart.{partBroken, partRefused, partLong}
 use Rattle.keypage.specs.Read.{broken, refused, long}
-use Rattle.keypage.proofs.ReadNumbers.{read-two, read-three, read-four, read-zero}
+use Rattle.keypage.proofs.ReadNumbers.{page-two, page-three, page-four, page-zero}
 use borrow.Author.Needs.{needs}
 use Rattle.keypage.proofs.reading.check.Statement.{statement}
 use Rattle.keypage.proofs.reading.check.Tie as tie
@@ -36,22 +36,22 @@ module _ (c : tie.After-part-long) where
   long-is t e = sym (ap (_||_ (ltb pageMax (length page))) (c .part-long .ensures ∙ of-its-part partLong)) ∙ e
 
 returns : tie.Need-returns
-returns c = sym (read-two _ (broken-is (c .before) true (c .if1 .taken)))
+returns c = sym (page-two _ (broken-is (c .before) true (c .if1 .taken)))
 
 returns-2 : tie.Need-returns-2
 returns-2 c =
     let tested = c .before .before in
-    sym (read-three _ (broken-is tested false (c .before .if1 .left)) (refused-is tested true (c .if2 .taken)))
+    sym (page-three _ (broken-is tested false (c .before .if1 .left)) (refused-is tested true (c .if2 .taken)))
 
 returns-3 : tie.Need-returns-3
 returns-3 c =
     let tested = c .before .before .before in
-    sym (read-four _ (broken-is tested false (c .before .before .if1 .left)) (refused-is tested false (c .before .if2 .left)) (long-is tested true (c .if3 .taken)))
+    sym (page-four _ (broken-is tested false (c .before .before .if1 .left)) (refused-is tested false (c .before .if2 .left)) (long-is tested true (c .if3 .taken)))
 
 returns-4 : tie.Need-returns-4
 returns-4 c =
     let tested = c .before .before .before in
-    sym (read-zero _ (broken-is tested false (c .before .before .if1 .left)) (refused-is tested false (c .before .if2 .left)) (long-is tested false (c .if3 .left)))
+    sym (page-zero _ (broken-is tested false (c .before .before .if1 .left)) (refused-is tested false (c .before .if2 .left)) (long-is tested false (c .if3 .left)))
 
 pub check-spec : {M : Type 1} → statement M
 check-spec =

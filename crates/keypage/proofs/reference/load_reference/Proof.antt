@@ -34,7 +34,8 @@ returns-2 : tie.Need-returns-2
 returns-2 c =
     let at-use = c .before in
     let a = start (at-use .before .before .before .before) .args in
-    reference-seven _ (a .algorithm) (a .s .now) (a .out .now) _ (found (at-use .before .before)) (ap (λ (u : ℕ). eqb u (a .algorithm)) (sym (at-use .use-at .ensures)) ∙ ne-eqb _ _ (c .if1 .taken))
+    reference-seven _ (a .algorithm) (a .s .now) (a .out .now) _ (found (at-use .before .before))
+    (ap (λ (u : ℕ). eqb u (a .algorithm)) (sym (at-use .use-at .ensures)) ∙ ne-eqb _ _ (c .if1 .taken))
 
 returns-3 : tie.Need-returns-3
 returns-3 c =
@@ -43,7 +44,8 @@ returns-3 c =
     let same-use = at-key .before .before in
     let at-use = same-use .before in
     let a = start (at-use .before .before .before .before) .args in
-    reference-zero _ (a .algorithm) (a .s .now) (a .out .now) _ (found (at-use .before .before)) (ap (λ (u : ℕ). eqb u (a .algorithm)) (sym (at-use .use-at .ensures)) ∙ eq-eqb _ _ (same-use .if1 .left))
+    reference-zero _ (a .algorithm) (a .s .now) (a .out .now) _ (found (at-use .before .before))
+    (ap (λ (u : ℕ). eqb u (a .algorithm)) (sym (at-use .use-at .ensures)) ∙ eq-eqb _ _ (same-use .if1 .left))
     ∙ ap (λ (l : List ℕ). (0, l)) (sym (at-put .put .ensures ∙ ap (λ (k : List ℕ). over k (a .out .now)) (its-bytes (at-key .key-at .ensures))))
 
 pub load-reference-spec : {M : Type 1} → statement M

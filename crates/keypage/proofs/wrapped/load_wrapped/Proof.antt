@@ -9,7 +9,7 @@ use lib.Dec.{eqb}
 use lib.ListN.{length, drop}
 use Rattle.octets.specs.Tests.{partOf}
 use Rattle.octets.proofs.Places.{its-bytes}
-use Rattle.keytable.specs.Row.{keySize, keyOf}
+use Rattle.keytable.specs.Row.{rowKeySize, rowKey}
 use Rattle.keytable.specs.Table.{rowFor, rowAt}
 use Rattle.keywrap.specs.Calls.{unwrapAnswer}
 use Rattle.keypage.specs.KeyPart.{kekUse, identifierOf, wrappedOf}
@@ -37,7 +37,7 @@ rest-is c =
     c .part2 .ensures ∙ part-rest s (4 + at-count .read16 .result) ∙ ap (λ (n : ℕ). drop (4 + n) s) (at-count .read16 .ensures .0)
 
 found : (c : tie.After-at) → let a = start (c .before .before .before) .args in
-    (rowFor (a .table .now) (identifierOf (a .s .now)) ≡ some (rowAt (a .table .now) (c .at .given .0 .0))) × (length (keyOf (rowAt (a .table .now) (c .at .given .0 .0))) ≡ keySize)
+    (rowFor (a .table .now) (identifierOf (a .s .now)) ≡ some (rowAt (a .table .now) (c .at .given .0 .0))) × (length (rowKey (rowAt (a .table .now) (c .at .given .0 .0))) ≡ rowKeySize)
 found c =
     let at-find = c .before .before in
     let at-part = at-find .before in
@@ -72,7 +72,8 @@ returns-3 c =
     let at = at-use .before .before in
     let from = start (at .before .before .before) in
     let a = from .args in
-    wrapped-rest _ (a .algorithm) (a .s .now) (a .out .now) _ (found at .0) (ap (λ (u : ℕ). eqb u kekUse) (sym (at-use .use-at .ensures)) ∙ eq-eqb _ _ (same-use .if1 .left)) (found at .1) (from .pre .1)
+    wrapped-rest _ (a .algorithm) (a .s .now) (a .out .now) _ (found at .0)
+    (ap (λ (u : ℕ). eqb u kekUse) (sym (at-use .use-at .ensures)) ∙ eq-eqb _ _ (same-use .if1 .left)) (found at .1) (from .pre .1)
     ∙ ap₂ (λ (k w : List ℕ). unwrapAnswer k w (a .out .now)) (sym (its-bytes (at-key .key-at .ensures))) (sym (rest-is at-rest))
     ∙ at-unwrap .unwrap .ensures
 

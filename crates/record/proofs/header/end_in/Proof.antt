@@ -2,7 +2,7 @@
 -- Assumes nothing.
 use native.Mathlib.Omega.{arith}
 use borrow.Author.Needs.{needs}
-use Rattle.record.proofs.Numbers.{iv-small, tag-small}
+use Rattle.record.proofs.Lengths.{iv-small, tag-small}
 use Rattle.record.proofs.Parts.{end-told}
 use Rattle.record.proofs.header.end_in.Statement.{statement}
 use Rattle.record.proofs.header.end_in.Tie as tie

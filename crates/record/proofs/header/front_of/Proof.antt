@@ -6,12 +6,12 @@ use Prim.Native.Nat.{ℕ}
 use borrow.Author.Needs.{needs}
 use lib.ListN.{replicate}
 use Rattle.octets.specs.Lent.{over}
-use Rattle.record.specs.Record.{front}
+use Rattle.record.specs.Record.{recordFront}
 use Rattle.record.proofs.header.front_of.Statement.{statement}
 use Rattle.record.proofs.header.front_of.Tie as tie
 
 returns : tie.Need-returns
-unfolding front
+unfolding recordFront
 returns c =
     let made = c .before .before .before .before in
     let a = made .before .before .args in

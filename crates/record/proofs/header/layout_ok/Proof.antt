@@ -2,7 +2,7 @@
 -- Assumes nothing.
 use native.Mathlib.Omega.{arith}
 use borrow.Author.Needs.{needs}
-use Rattle.record.proofs.Numbers.{iv-small}
+use Rattle.record.proofs.Lengths.{iv-small}
 use Rattle.record.proofs.Parts.{layout-tested}
 use Rattle.record.proofs.header.layout_ok.Statement.{statement}
 use Rattle.record.proofs.header.layout_ok.Tie as tie

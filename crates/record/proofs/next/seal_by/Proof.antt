@@ -7,33 +7,33 @@ use lib.ListN.{length}
 use borrow.Author.Needs.{needs}
 use Rattle.session.specs.Calls.{advanceAnswer}
 use Rattle.record.specs.Seal.{readyNumber, readyRow, readyAnswer}
-use Rattle.record.specs.declared.sealing.Ready.{Ready}
+use Rattle.record.specs.declared.sealing.SealReady.{SealReady}
 use Rattle.record.proofs.WithSession.{by-refused, by-spent, by-done}
 use Rattle.record.proofs.next.seal_by.Statement.{statement}
 use Rattle.record.proofs.next.seal_by.Tie as tie
 
-abbrev advanced : tie.After-test → tie.After-advance
+abbrev advanced : tie.After-ready-to-seal → tie.After-advance
 advanced c = c .before .before .before .before
 
-abbrev start : tie.After-test → tie.Start
+abbrev start : tie.After-ready-to-seal → tie.Start
 start c = advanced c .before .before .before .before .before .before
 
-size : (c : tie.After-test) → length (start c .args .s .prefix) ≡ 4
+size : (c : tie.After-ready-to-seal) → length (start c .args .s .prefix) ≡ 4
 size c = search needs
 
 -- the IV that is handed on is the one that the session gave
-abbrev iv : tie.After-test → List ℕ
+abbrev iv : tie.After-ready-to-seal → List ℕ
 iv c = c .before .before .before .iv-of .result
 
-gave : (c : tie.After-test) → advanceAnswer (start c .args .s) ≡ (advanced c .advance .result .number, iv c, advanced c .advance .result .session)
+gave : (c : tie.After-ready-to-seal) → advanceAnswer (start c .args .s) ≡ (advanced c .advance .result .number, iv c, advanced c .advance .result .session)
 gave c =
     let r = advanced c .advance .result in
     advanced c .advance .ensures ∙ ap (λ (v : List ℕ). (r .number, v, r .session)) (sym (c .before .before .before .iv-of .ensures))
 
-is : (c : tie.After-test) (r : Ready) → c .test .result ≡ r →
+is : (c : tie.After-ready-to-seal) (r : SealReady) → c .ready-to-seal .result ≡ r →
     let a = start c .args in
     readyAnswer (a .table .now) (a .name .now) (iv c) (a .aad .now) (length (a .plain .now)) (length (a .out .now)) ≡ (readyNumber r, readyRow (a .table .now) r)
-is c r e = c .test .ensures ∙ ap (λ (x : Ready). (readyNumber x, readyRow (start c .args .table .now) x)) e
+is c r e = c .ready-to-seal .ensures ∙ ap (λ (x : SealReady). (readyNumber x, readyRow (start c .args .table .now) x)) e
 
 returns : tie.Need-returns
 returns c =

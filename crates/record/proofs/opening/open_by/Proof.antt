@@ -5,8 +5,9 @@ use Prim.Native.Nat.{_≤_}
 use native.Mathlib.Omega.{arith}
 use Rattle.keytable.specs.Row.{nameMax}
 use Rattle.modes.specs.Calls.{textMax}
-use Rattle.record.proofs.Numbers.{iv-small}
-use Rattle.record.proofs.Reading.{Accepted, accepted, name-short, count-small}
+use Rattle.record.specs.Record.{countIn, nameSize}
+use Rattle.record.proofs.Lengths.{iv-small, name-within, count-within}
+use Rattle.record.proofs.Reading.{HeaderAccepted, header-accepted}
 use Rattle.record.proofs.Apart.{fields-opened}
 use borrow.Author.Needs.{needs}
 use Rattle.record.proofs.opening.open_by.Statement.{statement}
@@ -16,14 +17,14 @@ abbrev start : tie.After-tag-size → tie.Start
 start c = c .before .before .before .before .before .before
 
 -- the fields are those of an accepted record, and small
-is-read : (c : tie.After-tag-size) → let a = start c .args in Accepted (a .r .now) (a .mode) (a .k) (a .n)
-is-read c = let a = start c .args in accepted (a .r .now) (a .mode) (a .k) (a .n) (sym (start c .pre .0))
+is-read : (c : tie.After-tag-size) → let a = start c .args in HeaderAccepted (a .r .now) (a .mode) (a .k) (a .n)
+is-read c = let a = start c .args in header-accepted (a .r .now) (a .mode) (a .k) (a .n) (sym (start c .pre .0))
 
 small : (c : tie.After-tag-size) → let a = start c .args in (a .k ≤ nameMax) × (a .n ≤ textMax)
 small c =
-    let a = start c .args in
+    let r = start c .args .r .now in
     let is = is-read c in
-    (omega (arith, is .size-is, name-short (a .r .now) (is .short)), omega (arith, is .count-is, count-small (a .r .now) (is .short)))
+    (omega (arith, is .size-is, name-within (nameSize r) (countIn r) (is .short)), omega (arith, is .count-is, count-within (nameSize r) (countIn r) (is .short)))
 
 add-iv-at : tie.Need-add-iv-at
 add-iv-at c = omega (arith, small c .0)
@@ -42,7 +43,9 @@ returns c =
     let sized = p1 .before in
     let s = start sized in
     let a = s .args in
-    sym (fields-opened (a .key .now) (a .r .now) (a .aad .now) (a .out .now) (a .mode) (a .k) (a .n) _ _ (is-read sized) (sized .before .iv-size .ensures) (sized .tag-size .ensures) (s .pre .1) (s .pre .2) (s .pre .3))
+    sym
+    (fields-opened (a .key .now) (a .r .now) (a .aad .now) (a .out .now) (a .mode) (a .k) (a .n) _ _ (is-read sized) (sized .before .iv-size .ensures) (sized .tag-size .ensures)
+    (s .pre .1) (s .pre .2) (s .pre .3))
     ∙ rw (← p1 .part .ensures, ← p4 .before .before .part2 .ensures, ← p4 .before .part3 .ensures, ← p4 .part4 .ensures) (at-call .decrypt .ensures)
 
 pub open-by-spec : {M : Type 1} → statement M

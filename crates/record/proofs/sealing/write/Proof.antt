@@ -12,8 +12,8 @@ use Rattle.keytable.specs.Row.{useOf}
 use Rattle.keytable.specs.Table.{tableOk, dataRow, rowAt}
 use Rattle.keytable.proofs.Laws.{rowFor-good}
 use Rattle.record.specs.Seal.{recordOf, recordBy}
-use Rattle.record.specs.Laws.{InRange}
-use Rattle.record.proofs.Ready.{ready-row, ready-able, ready-same}
+use Rattle.record.specs.Laws.{SealInRange}
+use Rattle.record.proofs.SealReady.{ready-row, ready-able, ready-same}
 use Rattle.record.proofs.sealing.write.Statement.{statement}
 use Rattle.record.proofs.sealing.write.Tie as tie
 
@@ -21,7 +21,7 @@ abbrev start : tie.After-use-at → tie.Start
 start c = c .before .before .before .before .before .before .before
 
 able : (c : tie.After-use-at) → let a = start c .args in
-    InRange (tableOk (a .table .now)) (some (rowAt (a .table .now) (a .at))) (a .name .now) (a .iv .now) (a .aad .now) (length (a .plain .now)) (length (a .out .now))
+    SealInRange (tableOk (a .table .now)) (some (rowAt (a .table .now) (a .at))) (a .name .now) (a .iv .now) (a .aad .now) (length (a .plain .now)) (length (a .out .now))
 able c = ready-able _ _ _ _ _ _ _ _ (start c .pre)
 
 found : (c : tie.After-use-at) → let a = start c .args in dataRow (a .table .now) (a .name .now) ≡ some (rowAt (a .table .now) (a .at))

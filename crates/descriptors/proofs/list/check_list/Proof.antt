@@ -1,4 +1,4 @@
--- `descriptors::list::test` meets its contract: what is left at `at` decides, and what it counts is added to the count so far.
+-- `descriptors::list::check_list` meets its contract: what is left at `at` decides, and what it counts is added to the count so far.
 -- Assumes nothing.
 use mathlib.Core.Path.{_≡_, refl, sym, ap, _∙_}
 use Prim.Native.Nat.{ℕ, _+_, _-_, _≤_}
@@ -12,8 +12,8 @@ use Rattle.descriptors.specs.Tested.{splitOk, listOk, unreserved, countO
 use Rattle.descriptors.proofs.Split.{size-in}
 use Rattle.descriptors.proofs.Turns.{test-turn, test-refused, count-turn, test-stop, test-end, count-end}
 use Rattle.descriptors.proofs.Answers.{list-refused, list-accepted}
-use Rattle.descriptors.proofs.list.test.Statement.{statement}
-use Rattle.descriptors.proofs.list.test.Tie as tie
+use Rattle.descriptors.proofs.list.check_list.Statement.{statement}
+use Rattle.descriptors.proofs.list.check_list.Tie as tie
 
 abbrev Inv-loop : tie.InvT-loop
 Inv-loop list label strict at₀ least₀ count₀ at least count =
@@ -76,8 +76,8 @@ returns-3 c =
     (list-accepted _ _ _ _ (sym (l .loop .inv .2) ∙ test-end _ _ (c .loop-test .left) _ _ _)
     (sym (add-zero (l .loop .count)) ∙ ap (λ (m : ℕ). l .loop .count + m) (sym (count-end _ _ (c .loop-test .left) _)) ∙ l .loop .inv .3))
 
-pub test-spec : {M : Type 1} → statement M
-test-spec =
+pub check-list-spec : {M : Type 1} → statement M
+check-list-spec =
     tie.close
     (tie.spec
     Inv-loop

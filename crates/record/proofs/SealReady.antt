@@ -12,7 +12,7 @@ use Rattle.octets.proofs.Lent.{answer-refused}
 use Rattle.keytable.specs.Calls.{missing}
 use Rattle.record.specs.Seal.{recordBy, sealNumber, readyBy, sealRow}
 use Rattle.octets.proofs.Lent.{answer-done}
-use Rattle.record.specs.Laws.{InRange}
+use Rattle.record.specs.Laws.{SealInRange}
 use Rattle.record.proofs.Sealed.{in-range}
 
 module _ (ok : Bool) (row : Option (List ℕ)) (name iv a : List ℕ) (size room : ℕ) where
@@ -28,7 +28,7 @@ module _ (ok : Bool) (row : Option (List ℕ)) (name iv a : List ℕ) (size room
   ready-refused n e =
       let (number, is) = ready-told n none e in (
         number,
-        λ z. let found = in-range ok name iv a size room row (number ∙ z) in false≢true (sym (ap missing (found .has-row)) ∙ ap missing (is z)),
+        λ z. let found = in-range ok name iv a size room row (number ∙ z) in false≢true (sym (ap missing (found .found-is)) ∙ ap missing (is z)),
       )
 
   -- found: the row, and no test applies
@@ -39,11 +39,11 @@ module _ (ok : Bool) (row : Option (List ℕ)) (name iv a : List ℕ) (size room
     pub ready-row : row ≡ some found
     ready-row = ready-told 0 (some found) e .1 refl
 
-    pub ready-able : InRange ok (some found) name iv a size room
+    pub ready-able : SealInRange ok (some found) name iv a size room
     ready-able = in-range ok name iv a size room (some found) (rw ready-row at ready-number)
 
-    pub ready-same : ready-able .row ≡ found
-    ready-same = cc (ready-able .has-row)
+    pub ready-same : ready-able .found-row ≡ found
+    ready-same = cc (ready-able .found-is)
 
 -- ---- sealing, by what its tests found
 

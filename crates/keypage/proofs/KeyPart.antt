@@ -1,20 +1,35 @@
--- The KEY part by its format: what its tests tell, and what passes them.
+-- The KEY part by its format: what each format's value has, which formats are known, what its tests tell, and what passes them.
 -- Assumes nothing.
 use mathlib.Core.Path.{_≡_, refl, sym, ap}
 use mathlib.Core.Bool.{Bool, true, false, not, _||_, false≢true}
 use mathlib.Core.List.{List}
 use Prim.Native.Nat.{ℕ, _+_, _≤_}
 use native.Mathlib.Omega.{arith}
-use borrow.Author.Tests.{eqb-true, eqb-false, ltb-false, le-ltb, leb-true, le-leb, not-false}
+use borrow.Author.Tests.{eqb-true, eqb-false, ne-eqb, ltb-false, le-ltb, leb-true, le-leb, not-false}
 use lib.Dec.{eqb}
 use lib.ListN.{length}
 use Rattle.octets.specs.Lent.{when}
 use Rattle.octets.specs.Tests.{every}
 use Rattle.octets.proofs.Lent.{isNot-false, isNot-right}
 use Rattle.octets.proofs.Tests.{every-at}
-use Rattle.keytable.specs.Row.{nameMax, keySize}
-use Rattle.keypage.specs.KeyPart.{plainFormat, referenceFormat, wrappedFormat, referenceMin, kekType, identifierSize, identifierAt, wrappedTests, partBroken, partRefused, partLong, needsRow}
+use Rattle.keytable.specs.Row.{nameMax, rowKeySize}
+use Rattle.keypage.specs.KeyPart.{plainFormat, referenceFormat, wrappedFormat, referenceMin, byFormat, kekType, identifierSize, identifierAt, wrappedTests, partBroken, partRefused, partLong, needsRow}
 use Rattle.keypage.specs.Laws.{PartLaid, plain, reference, wrapped}
+
+-- ---- what each format's value has, once the format is known
+
+module _ {A : Type 0} (f : ℕ) (plain reference wrapped other : A) where
+  pub of-plain : f ≡ plainFormat → byFormat f plain reference wrapped other ≡ plain
+  of-plain e = rw e
+
+  pub of-reference : f ≡ referenceFormat → byFormat f plain reference wrapped other ≡ reference
+  of-reference e = rw e
+
+  pub of-wrapped : f ≡ wrappedFormat → byFormat f plain reference wrapped other ≡ wrapped
+  of-wrapped e = rw e
+
+  pub of-other : (f ≡ plainFormat → ⊥) → (f ≡ referenceFormat → ⊥) → (f ≡ wrappedFormat → ⊥) → byFormat f plain reference wrapped other ≡ other
+  of-other a b c = rw (ne-eqb f plainFormat a, ne-eqb f referenceFormat b, ne-eqb f wrappedFormat c)
 
 -- ---- the formats that are known
 
@@ -33,6 +48,12 @@ known f s e = go (eqb f plainFormat) (eqb f referenceFormat) (eqb f wrappedForma
     go false true c p q r h = as-reference (eqb-true f referenceFormat q)
     go false false true p q r h = as-wrapped (eqb-true f wrappedFormat r)
     go false false false p q r h = absurd (false≢true (sym h))
+
+-- a known format that is neither of the first two is the third
+pub third-format : (f : ℕ) → Known f → (f ≡ plainFormat → ⊥) → (f ≡ referenceFormat → ⊥) → f ≡ wrappedFormat
+third-format f (as-plain e) a b = absurd (a e)
+third-format f (as-reference e) a b = absurd (b e)
+third-format f (as-wrapped e) a b = e
 
 -- all but the plain one need a row
 pub known-needs : (f : ℕ) → Known f → (f ≡ plainFormat → ⊥) → needsRow f ≡ true
@@ -67,13 +88,13 @@ pub record PartPassed (f : ℕ) (s : List ℕ) : Type 0 where
   pub short : partLong f s ≡ false
 
 module _ (s : List ℕ) where
-  pub plain-size : PartPassed plainFormat s → length s ≡ keySize
+  pub plain-size : PartPassed plainFormat s → length s ≡ rowKeySize
   unfolding partBroken
-  plain-size h = isNot-false keySize s (h .whole)
+  plain-size h = isNot-false rowKeySize s (h .whole)
 
-  laid-plain : length s ≡ keySize → PartPassed plainFormat s
+  laid-plain : length s ≡ rowKeySize → PartPassed plainFormat s
   unfolding partBroken partRefused partLong
-  laid-plain size = record { whole = isNot-right keySize s size; permitted = refl; short = refl }
+  laid-plain size = record { whole = isNot-right rowKeySize s size; permitted = refl; short = refl }
 
   reference-laid : PartPassed referenceFormat s → PartLaid referenceFormat s
   unfolding partBroken partLong

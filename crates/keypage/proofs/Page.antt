@@ -9,16 +9,15 @@ use lib.Dec.{ltb}
 use lib.ListN.{length}
 use Rattle.octets.specs.BigEndian.{numberAt}
 use Rattle.octets.proofs.Tests.{or-left, or-right, every-at}
-use Rattle.descriptors.specs.Tested.{Answer}
 use Rattle.descriptors.proofs.Answers.{list-accepted, number-ok}
 use Rattle.descriptors.proofs.Laws.{accepts-exactly}
-use Rattle.keypage.specs.Page.{pageCode, pageMax, keyAt, scopeIn, reservedIn, encryptionIn, decryptionIn, algorithmIn, formatIn, keyLength}
-use Rattle.keypage.specs.Page.{keyPart, listIn, pageStrict, pageListOk, pageListCount, pageTests, pageOk, permittedTests, fieldsOk, fieldsOf}
+use Rattle.keypage.specs.Page.{pageCode, pageMax, keyPartAt, scopeIn, reservedIn, encryptionIn, decryptionIn, algorithmIn, formatIn, keyLength}
+use Rattle.keypage.specs.Page.{keyPart, listIn, pageStrict, pageListOk, pageListCount, pageTests, pageOk, permittedTests, fieldsOk}
 use Rattle.keypage.specs.KeyPart.{partBroken, partRefused, partLong}
-use Rattle.keypage.specs.Read.{broken, refused, long, readNumber, readAnswer}
+use Rattle.keypage.specs.Read.{pageReadNumber, pageReadAnswer}
 use Rattle.keypage.specs.Laws.{Laid, Readable}
-use Rattle.keypage.proofs.ReadNumbers.{accepted}
-use Rattle.keypage.proofs.Laid.{PartPassed, part-laid, laid-part}
+use Rattle.keypage.proofs.ReadNumbers.{ReadPassed, read-passed}
+use Rattle.keypage.proofs.KeyPart.{PartPassed, part-laid, laid-part}
 
 -- ---- the page's own layout and fields
 
@@ -31,7 +30,7 @@ module _ (p : List ℕ) where
         total = eqb-true (length p) (numberAt 2 p 2 + 4) (every-at (pageTests p) 1 ok);
         reserved-bits = eqb-true (reservedIn p) 0 (every-at (pageTests p) 2 ok);
         reserved-bytes = every-at (pageTests p) 3 ok;
-        key-within = leb-true (keyAt + keyLength p) (length p) (every-at (pageTests p) 4 ok);
+        key-within = leb-true (keyPartAt + keyLength p) (length p) (every-at (pageTests p) 4 ok);
         list =
             accepts-exactly false pageStrict (listIn p) (pageListCount (listIn p)) .0
             (list-accepted false pageStrict (listIn p) (pageListCount (listIn p)) (every-at (pageTests p) 5 ok) refl);
@@ -45,7 +44,7 @@ module _ (p : List ℕ) where
 
   module _ (n : ℕ) (h : Laid p n) where
     pub laid-list : pageListOk (listIn p) ≡ true
-    laid-list = number-ok false pageStrict (listIn p) (ap (λ (a : Answer). a .0) (accepts-exactly false pageStrict (listIn p) n .1 (h .list)))
+    laid-list = number-ok false pageStrict (listIn p) (ap (λ (a : ℕ × List ℕ). a .0) (accepts-exactly false pageStrict (listIn p) n .1 (h .list)))
 
     pub laid-page : pageOk p ≡ true
     unfolding pageOk
@@ -55,7 +54,7 @@ module _ (p : List ℕ) where
           eq-eqb (length p) (numberAt 2 p 2 + 4) (h .total),
           eq-eqb (reservedIn p) 0 (h .reserved-bits),
           h .reserved-bytes,
-          le-leb (keyAt + keyLength p) (length p) (h .key-within),
+          le-leb (keyPartAt + keyLength p) (length p) (h .key-within),
           laid-list,
         )
 
@@ -72,18 +71,9 @@ module _ (p : List ℕ) where
 
 -- ---- the numbers of reading
 
--- no test of reading applies
-pub record ReadPassed (p : List ℕ) : Type 0 where
-  pub whole : broken p ≡ false
-  pub permitted : refused p ≡ false
-  pub short : long p ≡ false
-
 module _ (p : List ℕ) where
-  pub read-passed : readNumber p ≡ 0 → ReadPassed p
-  read-passed e = let (whole, permitted, short) = accepted p e in record { whole = whole; permitted = permitted; short = short }
-
-  pub passed-read : ReadPassed p → readNumber p ≡ 0
-  unfolding readNumber
+  pub passed-read : ReadPassed p → pageReadNumber p ≡ 0
+  unfolding pageReadNumber
   passed-read h = rw (h .whole, h .permitted, h .short)
 
   -- so do none of the KEY part's
@@ -95,8 +85,8 @@ module _ (p : List ℕ) where
         short = or-right (ltb pageMax (length p)) (partLong (formatIn p) (keyPart p)) (h .short);
       }
 
-  pub read-part : readNumber p ≡ 0 → PartPassed (formatIn p) (keyPart p)
-  read-part e = passed-part (read-passed e)
+  pub read-part : pageReadNumber p ≡ 0 → PartPassed (formatIn p) (keyPart p)
+  read-part e = passed-part (read-passed p e)
 
   pub passed-readable : ReadPassed p → Readable p
   passed-readable h =
@@ -120,10 +110,6 @@ module _ (p : List ℕ) where
 
   -- ---- the answer
 
-  pub read-done : (fields : List ℕ) → readNumber p ≡ 0 → readAnswer p fields ≡ (0, fieldsOf p)
-  unfolding readAnswer
-  read-done fields e = rw e
-
-  pub read-zero : (fields after : List ℕ) → readAnswer p fields ≡ (0, after) → readNumber p ≡ 0
-  unfolding readAnswer
-  read-zero fields after e = ap (λ (x : ℕ × List ℕ). x .0) e
+  pub answer-told : (fields after : List ℕ) → pageReadAnswer p fields ≡ (0, after) → pageReadNumber p ≡ 0
+  unfolding pageReadAnswer
+  answer-told fields after e = ap (λ (x : ℕ × List ℕ). x .0) e

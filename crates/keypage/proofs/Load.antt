@@ -4,22 +4,22 @@ use mathlib.Core.Path.{_≡_, refl, sym, ap, _∙_}
 use mathlib.Core.Bool.{Bool, true, _&&_, not, false≢true}
 use mathlib.Core.List.{List}
 use mathlib.Core.Option.{Option, some, none}
-use Prim.Native.Nat.{ℕ, _≤_}
+use Prim.Native.Nat.{ℕ}
 use native.Mathlib.Omega.{arith}
 use borrow.Author.Tests.{eqb-true, eq-eqb, le-ltb, not-false}
 use lib.Dec.{eqb}
 use lib.ListN.{length}
-use Rattle.octets.specs.Lent.{lowest, over, answer}
-use Rattle.octets.proofs.Lent.{isNot-false, isNot-right}
-use Rattle.keytable.specs.Row.{keySize, useOf, keyOf}
+use Rattle.octets.specs.Lent.{lowest, over}
+use Rattle.octets.proofs.Lent.{isNot-false}
+use Rattle.keytable.specs.Row.{rowKeySize, useOf}
 use Rattle.keytable.specs.Table.{tableOk}
-use Rattle.keywrap.specs.Calls.{wrappedSize, unwrapNumber, unwrapAnswer}
+use Rattle.keywrap.specs.Calls.{wrappedSize}
 use Rattle.keypage.specs.Page.{algorithmIn, formatIn, keyPart, fieldsOf}
-use Rattle.keypage.specs.KeyPart.{referenceFormat, wrappedFormat, kekUse, wrappedOf, needsRow, useFor}
+use Rattle.keypage.specs.KeyPart.{referenceFormat, wrappedFormat, wrappedOf, needsRow, useFor}
 use Rattle.keypage.specs.Load.{rowNamed, partTests, keyLoaded, loadNumber, loadRow, loadAnswer}
 use Rattle.keypage.specs.Laws.{Given, Loads}
 use Rattle.octets.proofs.Lent.{none-applies, over-injective}
-use Rattle.keypage.proofs.Permitted.{ReadPassed, read-passed}
+use Rattle.keypage.proofs.LoadNumbers.{load-number}
 
 -- ---- the KEY part's own tests, 6 to 9
 
@@ -50,13 +50,6 @@ module _ (row : List ℕ) (algorithm : ℕ) (s : List ℕ) where
   pub wrapped-size : partNumber (some row) algorithm wrappedFormat s ≡ 0 → length (wrappedOf s) ≡ wrappedSize
   wrapped-size e = isNot-false wrappedSize (wrappedOf s) (none-applies (partTests (some row) algorithm wrappedFormat s) 2 refl e)
 
-  -- a wrapped part with the row of a KEK is answered as unwrapping by that KEK is
-  pub wrapped-answer : (out : List ℕ) → useOf row ≡ kekUse → length (keyOf row) ≡ keySize → keySize ≤ length out
-      → answer (partNumber (some row) algorithm wrappedFormat s) (keyLoaded (some row) wrappedFormat s) out ≡ unwrapAnswer (keyOf row) (wrappedOf s) out
-  unfolding keyLoaded unwrapAnswer unwrapNumber
-  wrapped-answer out use-is size room =
-      rw (eq-eqb (useOf row) kekUse use-is, isNot-right keySize (keyOf row) size, le-ltb (length out) keySize room)
-
 -- ---- the whole call, by a format, the row found for it and the key it then gives
 
 abbrev pub rowGiven : List ℕ → List ℕ → ℕ → Option (List ℕ)
@@ -68,14 +61,9 @@ numberIn t p f = partNumber (rowGiven t p f) (algorithmIn p) f (keyPart p)
 abbrev pub keyGiven : List ℕ → List ℕ → ℕ → List ℕ
 keyGiven t p f = keyLoaded (rowGiven t p f) f (keyPart p)
 
-load-number : (ok : Bool) (row : Option (List ℕ)) (p : List ℕ) (room : ℕ) → ok ≡ true → ReadPassed p → keySize ≤ room
-    → loadNumber ok row p room ≡ partNumber row (algorithmIn p) (formatIn p) (keyPart p)
-unfolding loadNumber
-load-number ok row p room accepted passed fits = rw (accepted, passed .whole, passed .permitted, passed .short, le-ltb room keySize fits)
-
 module _ (t p out fields : List ℕ) (given : Given t p out) where
   left : loadNumber (tableOk t) (rowGiven t p (formatIn p)) p (length out) ≡ numberIn t p (formatIn p)
-  left = load-number (tableOk t) (rowGiven t p (formatIn p)) p (length out) (given .accepted) (read-passed p (given .readable)) (given .room)
+  left = load-number (tableOk t) (rowGiven t p (formatIn p)) p (length out) (given .table-accepted) (given .readable) (le-ltb (length out) rowKeySize (given .key-fits))
 
   module _ (f : ℕ) (is : formatIn p ≡ f) where
     pub load-zero : numberIn t p f ≡ 0 → loadAnswer t p out fields ≡ ((0, over (keyGiven t p f) out), fieldsOf p)
@@ -94,10 +82,10 @@ module _ (t p out fields : List ℕ) (given : Given t p out) where
     pub load-written : (k : List ℕ) → Loads t p out fields k → over (keyGiven t p f) out ≡ over k out
     load-written k h = ap (λ (x : (ℕ × List ℕ) × List ℕ). x .0 .1) (sym (load-zero (load-told k h)) ∙ h .answers)
 
-    pub load-key : (k : List ℕ) → length (keyGiven t p f) ≡ keySize → Loads t p out fields k → keyGiven t p f ≡ k
+    pub load-key : (k : List ℕ) → length (keyGiven t p f) ≡ rowKeySize → Loads t p out fields k → keyGiven t p f ≡ k
     load-key k size h =
-        over-injective (keyGiven t p f) k out (size ∙ sym (h .size)) (omega (arith, h .size, given .room)) (load-written k h)
+        over-injective (keyGiven t p f) k out (size ∙ sym (h .size)) (omega (arith, h .size, given .key-fits)) (load-written k h)
 
-    pub key-loads : (k : List ℕ) → numberIn t p f ≡ 0 → length k ≡ keySize → over (keyGiven t p f) out ≡ over k out → Loads t p out fields k
+    pub key-loads : (k : List ℕ) → numberIn t p f ≡ 0 → length k ≡ rowKeySize → over (keyGiven t p f) out ≡ over k out → Loads t p out fields k
     key-loads k e size same =
         record { size = size; answers = load-zero e ∙ ap (λ (l : List ℕ). ((0, l), fieldsOf p)) same }
