@@ -5,11 +5,10 @@
  * says; so is a number stored, and a session to be started. A line of session_issue or of seal_next ends with prefix,
  * start, spent byte, and rooms with commas between: the start is answered as NAME.start, then each call by a line.
  */
-#include "lists.h"
-#include "next.h"
-#include "pages.h"
-
-#define DATA_MAX 4152
+#include "model/lists.h"
+#include "model/modes.h"
+#include "model/next.h"
+#include "model/pages.h"
 
 /* The most strings and numbers that a call is given, and the most numbers that one stores. */
 #define STRINGS 8
@@ -21,68 +20,6 @@ static struct bytes lent(size_t room)
     struct bytes b = room_for(room);
     memset(b.at, 0xa5, b.len);
     return b;
-}
-
-static int block(int encrypt, int times, struct bytes *w)
-{
-    if (w[0].len != 32 || w[1].len != 16)
-        return 2;
-    while (times-- > 0)
-        aes_block(encrypt, w[0].at, w[1].at);
-    return 0;
-}
-
-static int mode_encrypt(int ccm, struct bytes *w, struct bytes out)
-{
-    unsigned char tag[16];
-    if (w[0].len != 32 || w[1].len != 12)
-        return 2;
-    if (w[2].len > DATA_MAX || w[3].len > PLAIN_MAX)
-        return 4;
-    if (out.len < w[3].len + 16)
-        return 5;
-    aead_encrypt(ccm, w[0], w[1], w[2], w[3], out.at, tag);
-    memcpy(out.at + w[3].len, tag, 16);
-    return 0;
-}
-
-static int mode_decrypt(int ccm, struct bytes *w, struct bytes out)
-{
-    int right;
-    unsigned char *plain;
-    if (w[0].len != 32 || w[1].len != 12 || w[4].len != 16)
-        return 2;
-    if (w[2].len > DATA_MAX || w[3].len > PLAIN_MAX)
-        return 4;
-    if (out.len < w[3].len)
-        return 5;
-    plain = malloc(w[3].len + 16);
-    right = aead_decrypt(ccm, w[0], w[1], w[2], w[3], w[4].at, plain);
-    if (right)
-        memcpy(out.at, plain, w[3].len);
-    free(plain);
-    return right ? 0 : 9;
-}
-
-static int wrap(struct bytes *w, struct bytes out)
-{
-    if (w[0].len != 32 || w[1].len != 32)
-        return 2;
-    if (out.len < 40)
-        return 5;
-    must(key_wrap(1, w[0].at, w[1].at, out.at), "wrap");
-    return 0;
-}
-
-static int unwrap(struct bytes *w, struct bytes out)
-{
-    if (w[0].len != 32)
-        return 2;
-    if (out.len < 32)
-        return 5;
-    if (w[1].len != 40)
-        return 8;
-    return key_wrap(0, w[0].at, w[1].at, out.at) ? 0 : 9;
 }
 
 /* What a call is lent: strings, numbers, an output, room for the numbers it stores, and a session. */
