@@ -2,9 +2,9 @@
  * The second program on files, with the words of ./spadeswirl: what it writes to standard output is what that is to
  * write, and the number is on standard error. It is also what seals the records of examples/.
  */
-#include "lists.h"
-#include "pages.h"
-#include "records.h"
+#include "model/lists.h"
+#include "model/pages.h"
+#include "model/records.h"
 
 static struct bytes file(const char *path)
 {
