@@ -216,8 +216,8 @@ uint8_t spadeswirl_find(const uint8_t *table, size_t table_len,
 /*
  * Seals a text into a record by the row of exactly that name, whose use is the
  * mode: fills the first SPADESWIRL_RECORD_BYTES(name_len, plain_len) bytes of
- * the output. That no IV is used twice with one key is the caller's to see to,
- * or a session's (below). Numbers: 0; 1; 2 for an empty name or another length
+ * the output. A fresh IV is the caller's to see to, as above, or a session's
+ * (below). Numbers: 0; 1; 2 for an empty name or another length
  * of IV; 4; 5; 6; 7 for the row of a key-encrypting key.
  */
 uint8_t spadeswirl_seal(const uint8_t *table, size_t table_len,
@@ -271,10 +271,9 @@ uint8_t spadeswirl_seal_next(struct spadeswirl_session *session,
 
 /*
  * Opens a record by the row of its whole name: fills the first *n bytes of the
- * output and stores n, so that no caller has to believe the header; no byte is
- * written before the tag is found right. Numbers: 0; 1; 2 and 3 as for
- * spadeswirl_record_check; 4 for the record or the associated data; 5; 6; 7
- * where the row's use is not the record's mode; 9.
+ * output and stores n; no byte is written before the tag is found right.
+ * Numbers: 0; 1; 2 and 3 as for spadeswirl_record_check; 4 for the record or
+ * the associated data; 5; 6; 7 for a row of another use than its mode; 9.
  */
 uint8_t spadeswirl_open(const uint8_t *table, size_t table_len,
                         const uint8_t *record, size_t record_len,
@@ -293,11 +292,9 @@ uint8_t spadeswirl_list_check(const uint8_t *list, size_t list_len,
                               uint8_t label, uint8_t strict, uint64_t *count);
 
 /*
- * Steps along a list from a place: stores the start and the end of the first
- * descriptor there or after that is not reserved, from its type byte on; the
- * next step goes from its end. Where none is left both are the place. Numbers:
- * 0; 2 where the place lies past the end or a step meets bytes that are no
- * whole descriptor, or a reserved one with strict not 0.
+ * Steps along a list from a place: stores where the next descriptor that is not
+ * reserved starts and ends, or the place twice where none is left. The step
+ * after it goes from that end. Numbers: 0, 2.
  */
 uint8_t spadeswirl_list_step(const uint8_t *list, size_t list_len,
                              uint8_t label, uint8_t strict, uint64_t place,
