@@ -7,13 +7,13 @@
 #include "peers.h"
 #include "spadeswirl.h"
 
-#define NAME 32
+#define NAME SPADESWIRL_NAME_MAX
 
-static uint8_t table[8 + 2 * 72] = { 0, 1, 0, 2, 0, 8, 0, 72 };
+static uint8_t table[SPADESWIRL_TABLE_BYTES(2)] = { 0, 1, 0, 2, 0, 8, 0, 72 };
 
 static uint8_t *row(int mode)
 {
-    return table + 8 + 72 * mode;
+    return table + SPADESWIRL_TABLE_BYTES(mode);
 }
 
 /* The names count up from A and from B. */
@@ -22,26 +22,26 @@ static void ready(struct message *m)
     for (int mode = GCM; mode <= CCM; mode++) {
         uint8_t *r = row(mode);
         r[0] = NAME;
-        r[1] = mode == GCM ? 2 : 1;
+        r[1] = mode == GCM ? SPADESWIRL_GCM : SPADESWIRL_CCM;
         for (int i = 0; i < NAME; i++)
             r[8 + i] = (uint8_t)('A' + mode + i);
-        memcpy(r + 40, m->key, 32);
+        memcpy(r + 40, m->key, SPADESWIRL_KEY_BYTES);
     }
 }
 
 static void seal(int mode, struct message *m)
 {
     ready(m);
-    if (spadeswirl_seal(table, sizeof table, row(mode) + 8, NAME, m->iv, 12, NULL, 0, m->text, m->len, m->out - FRONT, FRONT + m->len + 16))
+    if (spadeswirl_seal(table, sizeof table, row(mode) + 8, NAME, m->iv, SPADESWIRL_IV_BYTES, NULL, 0, m->text, m->len, m->out - FRONT, FRONT + m->len + SPADESWIRL_TAG_BYTES))
         abort();
-    memcpy(m->tag, m->out + m->len, 16);
+    memcpy(m->tag, m->out + m->len, SPADESWIRL_TAG_BYTES);
 }
 
 static int open(int mode, struct message *m)
 {
     uint64_t n = 0;
     (void)mode;
-    return spadeswirl_open(table, sizeof table, m->text - FRONT, FRONT + m->len + 16, NULL, 0, m->out, m->len, &n) == 0 && n == m->len;
+    return spadeswirl_open(table, sizeof table, m->text - FRONT, FRONT + m->len + SPADESWIRL_TAG_BYTES, NULL, 0, m->out, m->len, &n) == 0 && n == m->len;
 }
 
 const struct peer unit = { "spadeswirl", seal, open };

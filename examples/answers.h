@@ -67,13 +67,13 @@ static inline void show(const char *what, struct bytes b)
 }
 
 /* A key table's header: format 1, the count of rows, the first row's place, the length of a row. */
-#define TABLE(rows) (8 + 72 * (rows))
-enum { CCM = 1, GCM = 2, KEK = 3 };
+#define TABLE(rows) SPADESWIRL_TABLE_BYTES(rows)
+enum { CCM = SPADESWIRL_CCM, GCM = SPADESWIRL_GCM, KEK = SPADESWIRL_KEK };
 
 static inline void begin_table(uint8_t *table, uint8_t rows)
 {
-    memset(table, 0, TABLE((size_t)rows));
-    table[1] = 1, table[3] = rows, table[5] = 8, table[7] = 72;
+    memset(table, 0, TABLE(rows));
+    table[1] = 1, table[3] = rows, table[5] = SPADESWIRL_TABLE_HEADER_BYTES, table[7] = SPADESWIRL_ROW_BYTES;
 }
 
 /* A row: the name's length, its use, the name, and a key of 32 bytes that count up from `first`. */
@@ -82,7 +82,7 @@ static inline uint8_t *set_row(uint8_t *table, unsigned i, const char *name, uin
     uint8_t *row = table + TABLE(i);
     row[0] = (uint8_t)strlen(name), row[1] = use;
     memcpy(row + 8, name, row[0]);
-    for (unsigned k = 0; k < 32; k++)
+    for (unsigned k = 0; k < SPADESWIRL_KEY_BYTES; k++)
         row[40 + k] = (uint8_t)(first + k);
     return row;
 }

@@ -12,22 +12,22 @@ static void show(const char *what, const uint8_t *bytes, size_t n)
 
 int main(void)
 {
-    uint8_t key[32], block[16];
-    for (int i = 0; i < 32; i++)
+    uint8_t key[SPADESWIRL_KEY_BYTES], block[SPADESWIRL_BLOCK_BYTES];
+    for (int i = 0; i < SPADESWIRL_KEY_BYTES; i++)
         key[i] = (uint8_t)i;
-    for (int i = 0; i < 16; i++)
+    for (int i = 0; i < SPADESWIRL_BLOCK_BYTES; i++)
         block[i] = (uint8_t)(17 * i);
 
-    show("key", key, 32);
-    show("plaintext", block, 16);
-    if (spadeswirl_aes256_encrypt(key, 32, block, 16) != 0)
+    show("key", key, sizeof key);
+    show("plaintext", block, sizeof block);
+    if (spadeswirl_aes256_encrypt(key, sizeof key, block, sizeof block) != 0)
         return 1;
-    show("encrypted", block, 16);
-    if (spadeswirl_aes256_decrypt(key, 32, block, 16) != 0)
+    show("encrypted", block, sizeof block);
+    if (spadeswirl_aes256_decrypt(key, sizeof key, block, sizeof block) != 0)
         return 1;
-    show("decrypted", block, 16);
+    show("decrypted", block, sizeof block);
 
-    printf("a key of 31 bytes: %u\n", spadeswirl_aes256_encrypt(key, 31, block, 16));
-    show("the block", block, 16);
+    printf("a key of 31 bytes: %u\n", spadeswirl_aes256_encrypt(key, sizeof key - 1, block, sizeof block));
+    show("the block", block, sizeof block);
     return 0;
 }

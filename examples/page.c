@@ -6,10 +6,11 @@
  */
 #include "answers.h"
 
-enum { HEAD = 20, PLAIN_KEY = 0x00, REFERENCE = 0x01, WRAPPED_KEY = 0x04 };
+enum { HEAD = SPADESWIRL_PAGE_HEADER_BYTES };
+enum { PLAIN_KEY = SPADESWIRL_FORMAT_KEY, REFERENCE = SPADESWIRL_FORMAT_REFERENCE, WRAPPED_KEY = SPADESWIRL_FORMAT_WRAPPED };
 
 static uint8_t table[TABLE(2)], page[256];
-static uint64_t fields[14];
+static uint64_t fields[SPADESWIRL_FIELDS];
 
 /* A page with this KEY part, and one descriptor after it. Answers its length. */
 static size_t set_page(uint8_t format, struct bytes key)
@@ -44,73 +45,74 @@ static uint8_t load(size_t len, size_t room)
 
 static uint8_t load_wrapped(uint8_t type, const char *identifier, struct bytes wrapped)
 {
-    return load(set_page(WRAPPED_KEY, wrapped_part(type, identifier, wrapped)), 32);
+    return load(set_page(WRAPPED_KEY, wrapped_part(type, identifier, wrapped)), SPADESWIRL_KEY_BYTES);
 }
 
 static void loads(struct bytes key, struct bytes wrapped)
 {
     static const char *const names[] = { "scope", "lock", "CEEM", "RDMC", "SDK", "CKOD", "CKORP", "CKORL", "encryption mode",
         "decryption mode", "algorithm index", "key format", "KEY LENGTH", "descriptors" };
-    struct bytes loaded = { out, 32 }, sent = { page, 0 };
+    struct bytes loaded = { out, SPADESWIRL_KEY_BYTES }, sent = { page, 0 };
 
     puts("\nloaded:");
-    expect("a page with the key itself", 0, load(set_page(PLAIN_KEY, key), 32));
-    expect("a page with a reference, VENDOR  TAPE1", 0, load(set_page(REFERENCE, text("VENDOR  TAPE1")), 32));
+    expect("a page with the key itself", SPADESWIRL_DONE, load(set_page(PLAIN_KEY, key), 32));
+    expect("a page with a reference, VENDOR  TAPE1", SPADESWIRL_DONE, load(set_page(REFERENCE, text("VENDOR  TAPE1")), 32));
     show("the key of that row", loaded);
     sent.len = set_page(WRAPPED_KEY, wrapped_part(1, "KEK1", wrapped));
     show("a page with the key wrapped by KEK1", sent);
-    expect("that page", 0, load(sent.len, 32));
+    expect("that page", SPADESWIRL_DONE, load(sent.len, 32));
     show("the key that was wrapped", loaded);
-    for (int i = 0; i < 14; i++)
-        printf("%s %u%s", names[i], (unsigned)fields[i], i == 7 || i == 13 ? "\n" : ", ");
+    for (int i = 0; i < SPADESWIRL_FIELDS; i++)
+        printf("%s %u%s", names[i], (unsigned)fields[i],
+               i == SPADESWIRL_FIELD_CKORL || i == SPADESWIRL_FIELD_DESCRIPTORS ? "\n" : ", ");
 }
 
 static void refused(struct bytes key, struct bytes wrapped)
 {
-    uint8_t changed[40];
+    uint8_t changed[SPADESWIRL_WRAPPED_BYTES];
     struct bytes w;
     size_t len;
 
     puts("\nrefused:");
     table[3] = 3;
-    expect("by a table whose header counts one row too many", 1, load(set_page(PLAIN_KEY, key), 32));
+    expect("by a table whose header counts one row too many", SPADESWIRL_BAD_TABLE, load(set_page(PLAIN_KEY, key), 32));
     table[3] = 2;
-    expect("a page one byte short", 2, load(set_page(PLAIN_KEY, key) - 1, 32));
+    expect("a page one byte short", SPADESWIRL_BAD_LAYOUT, load(set_page(PLAIN_KEY, key) - 1, 32));
     w = key, w.len = 31;
-    expect("a key of 31 bytes", 2, load(set_page(PLAIN_KEY, w), 32));
+    expect("a key of 31 bytes", SPADESWIRL_BAD_LAYOUT, load(set_page(PLAIN_KEY, w), 32));
     len = set_page(PLAIN_KEY, key), page[4] = 3 << 5;
-    expect("SCOPE 3", 3, load(len, 32));
-    expect("KEY FORMAT 02h", 3, load(set_page(0x02, key), 32));
-    expect("KEK type 3", 3, load_wrapped(3, "KEK1", wrapped));
-    expect("an identifier of 33 bytes", 4, load_wrapped(1, "a name of thirty-three letters...", wrapped));
-    expect("an output of 31 bytes", 5, load(set_page(PLAIN_KEY, key), 31));
-    expect("wrapped by KEK10, which no row has", 6, load_wrapped(1, "KEK10", wrapped));
-    expect("wrapped by VENDOR  TAPE1, whose row is for GCM", 7, load_wrapped(1, "VENDOR  TAPE1", wrapped));
+    expect("SCOPE 3", SPADESWIRL_NOT_PERMITTED, load(len, 32));
+    expect("KEY FORMAT 02h", SPADESWIRL_NOT_PERMITTED, load(set_page(0x02, key), 32));
+    expect("KEK type 3", SPADESWIRL_NOT_PERMITTED, load_wrapped(3, "KEK1", wrapped));
+    expect("an identifier of 33 bytes", SPADESWIRL_OVER_MAXIMUM, load_wrapped(1, "a name of thirty-three letters...", wrapped));
+    expect("an output of 31 bytes", SPADESWIRL_SHORT_OUTPUT, load(set_page(PLAIN_KEY, key), 31));
+    expect("wrapped by KEK10, which no row has", SPADESWIRL_NO_ROW, load_wrapped(1, "KEK10", wrapped));
+    expect("wrapped by VENDOR  TAPE1, whose row is for GCM", SPADESWIRL_OTHER_USE, load_wrapped(1, "VENDOR  TAPE1", wrapped));
     w = wrapped, w.len = 24;
-    expect("a wrapped key of 24 bytes", 8, load_wrapped(1, "KEK1", w));
+    expect("a wrapped key of 24 bytes", SPADESWIRL_BAD_WRAPPED_LENGTH, load_wrapped(1, "KEK1", w));
     memcpy(changed, wrapped.at, sizeof changed);
     changed[20] ^= 1, w.at = changed, w.len = sizeof changed;
-    expect("one bit of the wrapped key changed", 9, load_wrapped(1, "KEK1", w));
+    expect("one bit of the wrapped key changed", SPADESWIRL_NOT_AUTHENTIC, load_wrapped(1, "KEK1", w));
 }
 
 static void session(void)
 {
     struct spadeswirl_session s;
-    struct bytes iv = { out, 12 };
+    struct bytes iv = { out, SPADESWIRL_IV_BYTES };
 
     puts("\nan IV session:");
-    expect("started at 2^64 - 2", 0, spadeswirl_session_start(&s, 0x0a0b0c0d, UINT64_MAX - 1));
-    expect("an IV into 11 bytes", 5, spadeswirl_session_issue(&s, fresh_out(), 11));
-    expect("an IV", 0, spadeswirl_session_issue(&s, fresh_out(), 12));
+    expect("started at 2^64 - 2", SPADESWIRL_DONE, spadeswirl_session_start(&s, 0x0a0b0c0d, UINT64_MAX - 1));
+    expect("an IV into 11 bytes", SPADESWIRL_SHORT_OUTPUT, spadeswirl_session_issue(&s, fresh_out(), 11));
+    expect("an IV", SPADESWIRL_DONE, spadeswirl_session_issue(&s, fresh_out(), 12));
     show("the first IV", iv);
-    expect("another", 0, spadeswirl_session_issue(&s, fresh_out(), 12));
+    expect("another", SPADESWIRL_DONE, spadeswirl_session_issue(&s, fresh_out(), 12));
     show("the second IV", iv);
-    expect("a third", 10, spadeswirl_session_issue(&s, fresh_out(), 12));
+    expect("a third", SPADESWIRL_SESSION_SPENT, spadeswirl_session_issue(&s, fresh_out(), 12));
 }
 
 int main(void)
 {
-    uint8_t key[32], wrapped[40];
+    uint8_t key[SPADESWIRL_KEY_BYTES], wrapped[SPADESWIRL_WRAPPED_BYTES];
     struct bytes k = BYTES(key), w = BYTES(wrapped), t = BYTES(table);
     const uint8_t *kek;
 
@@ -121,7 +123,7 @@ int main(void)
     for (unsigned i = 0; i < sizeof key; i++)
         key[i] = (uint8_t)(0x80 + i);
     fresh_out();
-    expect("a key wrapped by KEK1", 0, spadeswirl_wrap(kek, 32, key, sizeof key, wrapped, sizeof wrapped));
+    expect("a key wrapped by KEK1", SPADESWIRL_DONE, spadeswirl_wrap(kek, SPADESWIRL_KEY_BYTES, key, sizeof key, wrapped, sizeof wrapped));
     loads(k, w);
     refused(k, w);
     session();

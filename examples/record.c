@@ -31,7 +31,7 @@ static uint8_t open(struct opening o, size_t room, uint64_t *n)
 }
 
 /* One byte more than a plaintext may have. */
-static uint8_t many[1048577];
+static uint8_t many[SPADESWIRL_TEXT_MAX + 1];
 
 static void sealing_refused(struct sealing right, size_t size)
 {
@@ -42,29 +42,29 @@ static void sealing_refused(struct sealing right, size_t size)
     memcpy(broken, right.table.at, sizeof broken);
     broken[3] = 4;
     s = right, s.table.at = broken;
-    expect("a table whose header counts one row too many", 1, seal(s, sizeof out));
+    expect("a table whose header counts one row too many", SPADESWIRL_BAD_TABLE, seal(s, sizeof out));
     s = right, s.name.len = 0;
-    expect("an empty name", 2, seal(s, sizeof out));
-    s = right, s.iv.len = 11;
-    expect("an IV of 11 bytes", 2, seal(s, sizeof out));
+    expect("an empty name", SPADESWIRL_BAD_LAYOUT, seal(s, sizeof out));
+    s = right, s.iv.len = SPADESWIRL_IV_BYTES - 1;
+    expect("an IV of 11 bytes", SPADESWIRL_BAD_LAYOUT, seal(s, sizeof out));
     s = right, s.name = text("a name of thirty-three letters...");
-    expect("a name of 33 bytes", 4, seal(s, sizeof out));
-    s = right, s.aad.at = many, s.aad.len = 4097;
-    expect("4,097 bytes of associated data", 4, seal(s, sizeof out));
-    s = right, s.plain.at = many, s.plain.len = 1048577;
-    expect("a plaintext of 1,048,577 bytes", 4, seal(s, sizeof out));
-    expect("an output one byte short", 5, seal(right, size - 1));
+    expect("a name of 33 bytes", SPADESWIRL_OVER_MAXIMUM, seal(s, sizeof out));
+    s = right, s.aad.at = many, s.aad.len = SPADESWIRL_AAD_MAX + 1;
+    expect("4,097 bytes of associated data", SPADESWIRL_OVER_MAXIMUM, seal(s, sizeof out));
+    s = right, s.plain.at = many, s.plain.len = SPADESWIRL_TEXT_MAX + 1;
+    expect("a plaintext of 1,048,577 bytes", SPADESWIRL_OVER_MAXIMUM, seal(s, sizeof out));
+    expect("an output one byte short", SPADESWIRL_SHORT_OUTPUT, seal(right, size - 1));
     s = right, s.name = text("TAPE10");
-    expect("by TAPE10, which no row has", 6, seal(s, sizeof out));
+    expect("by TAPE10, which no row has", SPADESWIRL_NO_ROW, seal(s, sizeof out));
     s = right, s.name = text("KEK1");
-    expect("by KEK1, whose row is for keys", 7, seal(s, sizeof out));
-    s.table.at = broken, s.iv.len = 11;
-    expect("all of this at once: the lowest number is given", 1, seal(s, 0));
+    expect("by KEK1, whose row is for keys", SPADESWIRL_OTHER_USE, seal(s, sizeof out));
+    s.table.at = broken, s.iv.len = SPADESWIRL_IV_BYTES - 1;
+    expect("all of this at once: the lowest number is given", SPADESWIRL_BAD_TABLE, seal(s, 0));
 }
 
 static void opening_refused(struct opening right)
 {
-    static const uint8_t no_rows[] = { 0, 1, 0, 0, 0, 8, 0, 72 };
+    static const uint8_t no_rows[SPADESWIRL_TABLE_BYTES(0)] = { 0, 1, 0, 0, 0, 8, 0, 72 };
     uint8_t table[TABLE(3)], record[128];
     struct opening o;
     uint64_t n = 7;
@@ -73,28 +73,28 @@ static void opening_refused(struct opening right)
     memcpy(table, right.table.at, sizeof table);
     table[3] = 4;
     o = right, o.table.at = table;
-    expect("a table whose header counts one row too many", 1, open(o, sizeof out, &n));
+    expect("a table whose header counts one row too many", SPADESWIRL_BAD_TABLE, open(o, sizeof out, &n));
     o = right, o.record.len--;
-    expect("a record one byte short", 2, open(o, sizeof out, &n));
+    expect("a record one byte short", SPADESWIRL_BAD_LAYOUT, open(o, sizeof out, &n));
     memcpy(record, right.record.at, right.record.len);
     record[7]++;
     o = right, o.record.at = record;
-    expect("a header that counts one byte more than there is", 2, open(o, sizeof out, &n));
+    expect("a header that counts one byte more than there is", SPADESWIRL_BAD_LAYOUT, open(o, sizeof out, &n));
     record[7]--, record[2] = 3;
-    expect("a mode that is neither 1 (CCM) nor 2 (GCM)", 3, open(o, sizeof out, &n));
-    o = right, o.aad.at = many, o.aad.len = 4097;
-    expect("4,097 bytes of associated data", 4, open(o, sizeof out, &n));
-    expect("an output one byte short", 5, open(right, 15, &n));
+    expect("a mode that is neither 1 (CCM) nor 2 (GCM)", SPADESWIRL_NOT_PERMITTED, open(o, sizeof out, &n));
+    o = right, o.aad.at = many, o.aad.len = SPADESWIRL_AAD_MAX + 1;
+    expect("4,097 bytes of associated data", SPADESWIRL_OVER_MAXIMUM, open(o, sizeof out, &n));
+    expect("an output one byte short", SPADESWIRL_SHORT_OUTPUT, open(right, 15, &n));
     o = right, o.table.at = no_rows, o.table.len = sizeof no_rows;
-    expect("by a table with no rows", 6, open(o, sizeof out, &n));
+    expect("by a table with no rows", SPADESWIRL_NO_ROW, open(o, sizeof out, &n));
     table[3] = 3, table[TABLE(0) + 1] = CCM;
     o = right, o.table.at = table;
-    expect("by a table whose TAPE1 is for CCM, and the record GCM's", 7, open(o, sizeof out, &n));
+    expect("by a table whose TAPE1 is for CCM, and the record GCM's", SPADESWIRL_OTHER_USE, open(o, sizeof out, &n));
     record[2] = GCM, record[right.record.len - 1] ^= 1;
     o = right, o.record.at = record;
-    expect("one bit of the tag changed", 9, open(o, sizeof out, &n));
+    expect("one bit of the tag changed", SPADESWIRL_NOT_AUTHENTIC, open(o, sizeof out, &n));
     o = right, o.aad = text("reel 8");
-    expect("other associated data than it was sealed with", 9, open(o, sizeof out, &n));
+    expect("other associated data than it was sealed with", SPADESWIRL_NOT_AUTHENTIC, open(o, sizeof out, &n));
     printf("n, which was 7 before, is %u\n", (unsigned)n);
 }
 
@@ -102,24 +102,24 @@ static void opening_refused(struct opening right)
 static void by_session(struct sealing s)
 {
     struct spadeswirl_session session;
-    size_t size = 52 + s.name.len + s.plain.len;
+    size_t size = SPADESWIRL_RECORD_BYTES(s.name.len, s.plain.len);
     struct bytes record = { out, size };
 
     puts("\nwith a session in place of an IV:");
-    expect("started at its last number, 2^64 - 1", 0, spadeswirl_session_start(&session, 0x00000002, UINT64_MAX));
-    expect("into an output one byte short", 5, seal_next(&session, s, size - 1));
-    expect("sealed with the last IV", 0, seal_next(&session, s, sizeof out));
+    expect("started at its last number, 2^64 - 1", SPADESWIRL_DONE, spadeswirl_session_start(&session, 0x00000002, UINT64_MAX));
+    expect("into an output one byte short", SPADESWIRL_SHORT_OUTPUT, seal_next(&session, s, size - 1));
+    expect("sealed with the last IV", SPADESWIRL_DONE, seal_next(&session, s, sizeof out));
     show("the session's record", record);
-    expect("sealed once more", 10, seal_next(&session, s, sizeof out));
-    expect("once more, and the output is short", 5, seal_next(&session, s, size - 1));
+    expect("sealed once more", SPADESWIRL_SESSION_SPENT, seal_next(&session, s, sizeof out));
+    expect("once more, and the output is short", SPADESWIRL_SHORT_OUTPUT, seal_next(&session, s, size - 1));
 }
 
 int main(void)
 {
     static uint8_t table[TABLE(3)];
-    static const uint8_t iv[12] = { 0, 0, 0, 1, 0, 0, 0, 0, 0, 0, 0, 1 };
+    static const uint8_t iv[SPADESWIRL_IV_BYTES] = { 0, 0, 0, 1, 0, 0, 0, 0, 0, 0, 0, 1 };
     struct sealing s = { BYTES(table), TEXT("TAPE1"), BYTES(iv), TEXT("reel 7"), TEXT("sixteen letters.") };
-    uint8_t record[52 + 5 + 16];
+    uint8_t record[SPADESWIRL_RECORD_BYTES(5, 16)];
     struct opening o = { BYTES(table), BYTES(record), TEXT("reel 7") };
     uint64_t n = 0;
 
@@ -134,10 +134,10 @@ int main(void)
     show("the plaintext", s.plain);
 
     puts("\nsealed and opened:");
-    expect("sealed by TAPE1, whose row is for GCM", 0, seal(s, sizeof out));
+    expect("sealed by TAPE1, whose row is for GCM", SPADESWIRL_DONE, seal(s, sizeof out));
     memcpy(record, out, sizeof record);
     show("the record", o.record);
-    expect("opened", 0, open(o, sizeof out, &n));
+    expect("opened", SPADESWIRL_DONE, open(o, sizeof out, &n));
     printf("%u bytes: %.*s\n", (unsigned)n, (int)n, (const char *)out);
 
     sealing_refused(s, sizeof record);
