@@ -43,7 +43,7 @@ dataBlocks a = when (hasData a) (cut (be 2 (length a) ++ a)) []
 abbrev pub chainStart : (List ℕ → List ℕ) → List ℕ → List ℕ → ℕ → List ℕ
 chainStart f iv a n = chain f (f (firstBlock iv a n)) (dataBlocks a)
 
--- A.2.3 fills the payload likewise. 6.1, steps 2 to 4: Y0 is the cipher of B0, and each further block is chained to it.
+-- A.2.3 fills the payload likewise, and its blocks are chained after those
 unfoldable pub mac : (List ℕ → List ℕ) → List ℕ → List ℕ → List ℕ → List ℕ
 mac f iv a p = chain f (f (firstBlock iv a (length p))) (dataBlocks a ++ cut p)
 
@@ -66,7 +66,7 @@ ccmTag f iv a p = xors (mac f iv a p) (firstPad f iv)
 unfoldable pub ccmTagRight : (List ℕ → List ℕ) → List ℕ → List ℕ → List ℕ → List ℕ → Bool
 ccmTagRight f iv a c t = same (xors t (firstPad f iv)) (mac f iv a (ccmText f iv c))
 
--- 6.1, steps 8 and 9, and 6.2, steps 5 to 10: what sealing makes, and the number that the tag decides with the output after it
+-- 6.1, step 8, and 6.2, steps 5 to 10: what sealing makes, and the number that the tag decides with the output after it
 abbrev pub ccmSealed : (List ℕ → List ℕ) → List ℕ → List ℕ → List ℕ → List ℕ
 ccmSealed f iv a p = ccmText f iv p ++ ccmTag f iv a p
 

@@ -25,7 +25,7 @@ ghost use Rattle.octets.specs.Xor.{xors};
 ghost use Rattle.aes.specs.Cipher.{cipher};
 ghost use Rattle.aes_fast.specs.Right.{Ready};
 ghost use Rattle.modes.specs.Calls.{dataMax};
-ghost use Rattle.modes.specs.Lent.{SealsWith, OpensWith};
+ghost use Rattle.modes.specs.Within.{SealsWith, OpensWith};
 ghost use Rattle.modes.specs.Counter.{counterBlock, frontOf};
 ghost use Rattle.modes.specs.Ccm.{flags, dataBlocks, chainStart, counterFront, ccmSealed, ccmOpened};
 

@@ -20,7 +20,7 @@ ghost use Rattle.octets.specs.Lent.{answer};
 ghost use Rattle.aes.specs.Cipher.{cipher};
 ghost use Rattle.aes_fast.specs.Right.{Ready};
 ghost use Rattle.modes.specs.Calls.{dataMax, textMax};
-ghost use Rattle.modes.specs.Lent.{SealsWith, OpensWith};
+ghost use Rattle.modes.specs.Within.{SealsWith, OpensWith};
 ghost use Rattle.modes.specs.Counter.{frontOf};
 ghost use Rattle.modes.specs.Gcm.{gcmTag, gcmSealed, gcmOpened};
 
