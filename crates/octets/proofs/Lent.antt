@@ -1,7 +1,7 @@
 -- A string written over the front of another, and what the answer of a call tells.
 -- Assumes nothing.
 use mathlib.Core.Path.{_≡_, refl, sym, ap, ap₂, _∙_}
-use mathlib.Core.Bool.{Bool, true, false, not, _&&_}
+use mathlib.Core.Bool.{Bool, true, false, not, _&&_, _||_}
 use mathlib.Core.List.{List, [], _∷_, _++_, append-nil}
 use Prim.Native.Nat.{ℕ, zero, suc, _+_, _-_, _≤_, _<_, min}
 use native.Mathlib.Nat.{zero-min, min-zero, suc-min-suc}
@@ -13,7 +13,7 @@ use lib.Seq.{take-all, take-nil, take-suc, drop-cons, set-at, append-snoc, lengt
 use borrow.Author.Tests.{eqb-true, eq-eqb, ltb-true, not-false}
 use Rattle.octets.specs.Lent.{Tests, when, isNot, lowest, over, answer}
 use Rattle.octets.specs.Lowest.{risesAbove, rises}
-use Rattle.octets.proofs.Tests.{and-left, and-right, rest-all}
+use Rattle.octets.proofs.Tests.{and-left, and-right, or-left, or-right, rest-all}
 
 -- ---- lengths
 
@@ -22,6 +22,14 @@ isNot-false n s right = eqb-true (length s) n (not-false (eqb (length s) n) righ
 
 pub isNot-right : (n : ℕ) (s : List ℕ) → length s ≡ n → isNot n s ≡ false
 isNot-right n s e = rw (eq-eqb (length s) n e)
+
+-- two strings whose lengths are tested together
+module _ (m n : ℕ) (s t : List ℕ) (right : (isNot m s || isNot n t) ≡ false) where
+  pub first-right : length s ≡ m
+  first-right = isNot-false m s (or-left (isNot m s) (isNot n t) right)
+
+  pub second-right : length t ≡ n
+  second-right = isNot-false n t (or-right (isNot m s) (isNot n t) right)
 
 -- ---- over
 

@@ -8,6 +8,8 @@ ghost use Rattle.octets.specs.Lent.{over};
 ghost use Rattle.octets.specs.Tests.{partOf, zeros};
 ghost use Rattle.octets.specs.Places.{placed, partIn};
 
+pub type Block = [u8; 16];
+
 // Whether two strings have the same length and the same bytes. Every byte is looked at, whatever the earlier ones are.
 pub fn equal(a: &[u8], b: &[u8]) -> bool
     ensures { λ r. ⌜ r ≡ same (now (a .entry)) (now (b .entry)) ⌝ }
@@ -25,7 +27,7 @@ pub fn equal(a: &[u8], b: &[u8]) -> bool
 }
 
 // The exclusive or of two blocks.
-pub fn xor_blocks(a: [u8; 16], b: [u8; 16]) -> [u8; 16]
+pub fn xor_blocks(a: Block, b: Block) -> Block
     ensures { λ r. ⌜ r ≡ xors a b ⌝ }
 {
     [
@@ -63,7 +65,7 @@ pub fn put(out: &mut [u8], s: &[u8])
 }
 
 // The first 16 bytes of a string, and zeros where it is shorter.
-pub fn first16(s: &[u8]) -> [u8; 16]
+pub fn first16(s: &[u8]) -> Block
     ensures { λ r. ⌜ r ≡ over (now (s .entry)) (replicate 16 0) ⌝ }
 {
     let mut b = [0u8; 16];
@@ -81,7 +83,7 @@ pub fn first32(s: &[u8]) -> [u8; 32]
 }
 
 // Eight bytes and then eight.
-pub fn two_eights(a: [u8; 8], b: [u8; 8]) -> [u8; 16]
+pub fn two_eights(a: [u8; 8], b: [u8; 8]) -> Block
     ensures { λ r. ⌜ r ≡ a ++ b ⌝ }
 {
     [
