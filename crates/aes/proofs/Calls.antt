@@ -5,19 +5,11 @@ use mathlib.Core.Bool.{true, false}
 use mathlib.Core.List.{List}
 use Prim.Native.Nat.{ℕ}
 use lib.ListN.{length}
-use Rattle.octets.specs.Lent.{isNot, over}
-use Rattle.octets.proofs.Tests.{or-left, or-right}
-use Rattle.octets.proofs.Lent.{isNot-false, isNot-right, over-whole}
+use Rattle.octets.specs.Lent.{over}
+use Rattle.octets.proofs.Lent.{isNot-right, over-whole}
 use Rattle.aes.specs.State.{State}
 use Rattle.aes.specs.KeyExpansion.{schedule}
 use Rattle.aes.specs.Calls.{keySize, blockSize, wrongLengths, blockNumber, blockAnswer}
-
-module _ (key block : List ℕ) (right : wrongLengths key block ≡ false) where
-  pub key-right : length key ≡ 32
-  key-right = isNot-false keySize key (or-left (isNot keySize key) (isNot blockSize block) right)
-
-  pub block-right : length block ≡ 16
-  block-right = isNot-false blockSize block (or-right (isNot keySize key) (isNot blockSize block) right)
 
 module _ (f : List State → List ℕ → List ℕ) (key block : List ℕ) where
   pub refused : (r : ℕ) (after : List ℕ) → wrongLengths key block ≡ true → (r ≡ 2) × (after ≡ block) → blockAnswer f key block ≡ (r, after)

@@ -6,7 +6,7 @@ use Prim.Native.Nat.{ℕ}
 use lib.ListN.{getD}
 use Rattle.aes_field.specs.Field.{xtime, times, inverse, affine, sbox}
 use Rattle.aes.specs.State.{State}
-use Rattle.aes.specs.Cipher.{cipher, rounds, round, lastRound}
+use Rattle.aes.specs.Cipher.{cipher, firstRounds, round, lastRound}
 use Rattle.aes.specs.Cipher.Inside.{cipher-is}
 use Rattle.aes.specs.KeyExpansion.{schedule, words, temp, power}
 use Rattle.aes.specs.KeyExpansion.Inside.{schedule-is}
@@ -24,7 +24,7 @@ sealed = 0x8e ∷ 0xa2 ∷ 0xb7 ∷ 0xca ∷ 0x51 ∷ 0x67 ∷ 0x45 ∷ 0xbf ∷
 
 -- appendix C.3
 appendix-C3 : cipher (schedule key) plain ≡ sealed
-unfolding rounds round lastRound words temp power sbox inverse affine times xtime
+unfolding firstRounds round lastRound words temp power sbox inverse affine times xtime
 appendix-C3 = ap (λ (ks : List State). cipher ks plain) (schedule-is key) ∙ cipher-is _ plain
 
 abbrev otherKey : List ℕ

@@ -7,23 +7,15 @@ use lib.ListN.{length, getD}
 use Rattle.octets.specs.Bytes.{Bytes}
 use Rattle.aes_field.specs.Field.{sbox, invSbox}
 use Rattle.aes_field.proofs.Laws.{sbox-byte, invSbox-byte, invSbox-sbox, sbox-invSbox}
-pub use Rattle.aes_state.specs.Laws.{IsState}
-use Rattle.aes_state.specs.Laws.{IsKey}
+use Rattle.aes_state.specs.Laws.{IsState, IsKey}
 use Rattle.aes_state.proofs.Grid.{grid-same}
 use Rattle.aes_state.proofs.Laws as steps
 use Rattle.aes.specs.State.{State, stateFrom, bytesOf}
-use Rattle.aes.specs.Cipher.{subBytes, shiftRows, mixColumns, addRoundKey, round, lastRound, rounds, cipher}
+use Rattle.aes.specs.Cipher.{subBytes, shiftRows, mixColumns, addRoundKey, round, lastRound, firstRounds, cipher}
 use Rattle.aes.specs.Cipher.Inside.{cipher-is}
 use Rattle.aes.specs.InvCipher.{invSubBytes, invShiftRows, invMixColumns, invRound, invLastRound, invRounds, invCipher}
 use Rattle.aes.specs.InvCipher.Inside.{invCipher-is}
 use Rattle.aes.proofs.Keys.{AreKeys}
-
--- AddRoundKey and the state of a block, for the fast way too
-pub add-state : {s : State} → IsState s → (k : State) → IsKey k → IsState (addRoundKey s k)
-add-state {s} w k hk = steps.add-state s k w hk
-
-pub block-state : {b : List ℕ} → Bytes b → IsState (stateFrom b)
-block-state {b} w = steps.block-state b w
 
 -- 5.1.1 and 5.3.2: each undoes the other
 module _ {s : State} (w : IsState s) where
@@ -65,11 +57,11 @@ module _ {s : State} (w : IsState s) where
 
   round-state : (k : State) → IsKey k → IsState (round s k)
   unfolding round
-  round-state k hk = add-state (steps.mix-state _ scrambled-state) k hk
+  round-state k hk = steps.add-state _ k (steps.mix-state _ scrambled-state) hk
 
   inv-round-state : (k : State) → IsKey k → IsState (invRound s k)
   unfolding invRound
-  inv-round-state k hk = steps.inv-mix-state _ (add-state unscrambled-state k hk)
+  inv-round-state k hk = steps.inv-mix-state _ (steps.add-state _ k unscrambled-state hk)
 
 -- a round, scrambled on to the next, is undone, and the other way round
 module _ {s : State} (w : IsState s) (k : State) (hk : IsKey k) where
@@ -84,48 +76,48 @@ module _ {s : State} (w : IsState s) (k : State) (hk : IsKey k) where
   unfolding invRound round
   round-inv-round t e =
       ap (λ (x : State). scrambled (addRoundKey (mixColumns x) k)) e
-      ∙ ap (λ (x : State). scrambled (addRoundKey x k)) (steps.mix-inv-mixed _ (add-state (unscrambled-state w) k hk))
+      ∙ ap (λ (x : State). scrambled (addRoundKey x k)) (steps.mix-inv-mixed _ (steps.add-state _ k (unscrambled-state w) hk))
       ∙ ap scrambled (steps.add-add k _ (unscrambled-state w)) ∙ scrambled-unscrambled w
 
 module _ (ks : List State) (keys : AreKeys ks) where
-  pub rounds-state : (n : ℕ) {s : State} → IsState s → IsState (rounds ks n s)
-  unfolding rounds
+  pub rounds-state : (n : ℕ) {s : State} → IsState s → IsState (firstRounds ks n s)
+  unfolding firstRounds
   rounds-state zero w = w
   rounds-state (suc n) w = round-state (rounds-state n w) (getD ks (suc n) []) (keys (suc n))
 
   inv-rounds-state : (n : ℕ) {s : State} → IsState s → IsState (invRounds ks n s)
   unfolding invRounds invLastRound
-  inv-rounds-state zero w = add-state (unscrambled-state w) (getD ks 0 []) (keys 0)
+  inv-rounds-state zero w = steps.add-state _ (getD ks 0 []) (unscrambled-state w) (keys 0)
   inv-rounds-state (suc n) w = inv-rounds-state n (inv-round-state w (getD ks (suc n) []) (keys (suc n)))
 
-  inv-rounds-rounds : (n : ℕ) {s : State} → IsState s → invRounds ks n (scrambled (rounds ks n s)) ≡ addRoundKey s (getD ks 0 [])
-  unfolding rounds invRounds invLastRound
+  inv-rounds-rounds : (n : ℕ) {s : State} → IsState s → invRounds ks n (scrambled (firstRounds ks n s)) ≡ addRoundKey s (getD ks 0 [])
+  unfolding firstRounds invRounds invLastRound
   inv-rounds-rounds zero w = ap (λ (x : State). addRoundKey x (getD ks 0 [])) (unscrambled-scrambled w)
   inv-rounds-rounds (suc n) w =
       ap (invRounds ks n) (inv-round-round (rounds-state n w) (getD ks (suc n) []) (keys (suc n))) ∙ inv-rounds-rounds n w
 
-  rounds-inv-rounds : (n : ℕ) {s : State} → IsState s → scrambled (rounds ks n (addRoundKey (invRounds ks n s) (getD ks 0 []))) ≡ s
-  unfolding rounds invRounds invLastRound
+  rounds-inv-rounds : (n : ℕ) {s : State} → IsState s → scrambled (firstRounds ks n (addRoundKey (invRounds ks n s) (getD ks 0 []))) ≡ s
+  unfolding firstRounds invRounds invLastRound
   rounds-inv-rounds zero w = ap scrambled (steps.add-add (getD ks 0 []) _ (unscrambled-state w)) ∙ scrambled-unscrambled w
   rounds-inv-rounds (suc n) w =
-      round-inv-round w (getD ks (suc n) []) (keys (suc n)) (rounds ks n (addRoundKey (invRounds ks (suc n) _) (getD ks 0 [])))
+      round-inv-round w (getD ks (suc n) []) (keys (suc n)) (firstRounds ks n (addRoundKey (invRounds ks (suc n) _) (getD ks 0 [])))
       (rounds-inv-rounds n (inv-round-state w (getD ks (suc n) []) (keys (suc n))))
 
 -- blocks
 
 module _ (ks : List State) (keys : AreKeys ks) {b : List ℕ} (bytes : Bytes b) where
   start : IsState (stateFrom b)
-  start = block-state bytes
+  start = steps.block-state b bytes
 
   first : (n : ℕ) → IsState (addRoundKey (stateFrom b) (getD ks n []))
-  first n = add-state start (getD ks n []) (keys n)
+  first n = steps.add-state _ (getD ks n []) start (keys n)
 
-  last : IsState (scrambled (rounds ks 13 (addRoundKey (stateFrom b) (getD ks 0 []))))
+  last : IsState (scrambled (firstRounds ks 13 (addRoundKey (stateFrom b) (getD ks 0 []))))
   last = scrambled-state (rounds-state ks keys 13 (first 0))
 
   pub cipher-bytes : Bytes (cipher ks b)
   unfolding lastRound
-  cipher-bytes = subst⁻¹ Bytes (cipher-is ks b) (steps.state-bytes _ (add-state last (getD ks 14 []) (keys 14)))
+  cipher-bytes = subst⁻¹ Bytes (cipher-is ks b) (steps.state-bytes _ (steps.add-state _ (getD ks 14 []) last (keys 14)))
 
   pub invCipher-bytes : Bytes (invCipher ks b)
   invCipher-bytes = subst⁻¹ Bytes (invCipher-is ks b) (steps.state-bytes _ (inv-rounds-state ks keys 13 (first 14)))
@@ -134,7 +126,7 @@ module _ (ks : List State) (keys : AreKeys ks) {b : List ℕ} (bytes : Bytes b) 
   unfolding lastRound
   invCipher-cipher long =
       ap (invCipher ks) (cipher-is ks b) ∙ invCipher-is ks _
-      ∙ ap (λ (x : State). bytesOf (invRounds ks 13 (addRoundKey x (getD ks 14 [])))) (steps.state-again _ (add-state last (getD ks 14 []) (keys 14)))
+      ∙ ap (λ (x : State). bytesOf (invRounds ks 13 (addRoundKey x (getD ks 14 [])))) (steps.state-again _ (steps.add-state _ (getD ks 14 []) last (keys 14)))
       ∙ ap (λ (x : State). bytesOf (invRounds ks 13 x)) (steps.add-add (getD ks 14 []) _ last)
       ∙ ap bytesOf (inv-rounds-rounds ks keys 13 (first 0) ∙ steps.add-add (getD ks 0 []) _ start)
       ∙ steps.block-again b long
@@ -143,7 +135,7 @@ module _ (ks : List State) (keys : AreKeys ks) {b : List ℕ} (bytes : Bytes b) 
   unfolding lastRound
   cipher-invCipher long =
       ap (cipher ks) (invCipher-is ks b) ∙ cipher-is ks _
-      ∙ ap (λ (x : State). bytesOf (lastRound (rounds ks 13 (addRoundKey x (getD ks 0 []))) (getD ks 14 []))) (steps.state-again _ (inv-rounds-state ks keys 13 (first 14)))
+      ∙ ap (λ (x : State). bytesOf (lastRound (firstRounds ks 13 (addRoundKey x (getD ks 0 []))) (getD ks 14 []))) (steps.state-again _ (inv-rounds-state ks keys 13 (first 14)))
       ∙ ap (λ (x : State). bytesOf (addRoundKey x (getD ks 14 []))) (rounds-inv-rounds ks keys 13 (first 14))
       ∙ ap bytesOf (steps.add-add (getD ks 14 []) _ start)
       ∙ steps.block-again b long

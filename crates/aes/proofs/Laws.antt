@@ -10,7 +10,7 @@ use Rattle.aes.specs.Calls.{encryptBlock, decryptBlock}
 use Rattle.aes.specs.Cipher.Inside.{cipher-is}
 use Rattle.aes.specs.InvCipher.Inside.{invCipher-is}
 use Rattle.aes.specs.Laws.{CipherLength, InvCipherLength, CipherBytes, InvCipherBytes, InvCipherUndoes, CipherUndoes, BlockTestsRise}
-use Rattle.aes.specs.Laws.{EncryptsInRange, DecryptsInRange, DecryptsEncrypted, EncryptsDecrypted, EncryptBlockUnique, DecryptBlockUnique}
+use Rattle.aes.specs.Laws.{EncryptBlockInRange, DecryptBlockInRange, DecryptsEncrypted, EncryptsDecrypted, EncryptBlockUnique, DecryptBlockUnique}
 use Rattle.aes.proofs.Keys.{schedule-keys}
 use Rattle.aes.proofs.Invert as invert
 use Rattle.aes.proofs.Calls.{in-range}
@@ -38,10 +38,10 @@ cipher-invCipher key b hk long hb = invert.cipher-invCipher (schedule key) (sche
 pub block-tests-rise : BlockTestsRise
 block-tests-rise key block = refl
 
-pub encrypts-in-range : EncryptsInRange
+pub encrypts-in-range : EncryptBlockInRange
 encrypts-in-range key block hk hb = in-range cipher key block hk hb (cipher-length (schedule key) block)
 
-pub decrypts-in-range : DecryptsInRange
+pub decrypts-in-range : DecryptBlockInRange
 decrypts-in-range key block hk hb = in-range invCipher key block hk hb (invCipher-length (schedule key) block)
 
 pub decrypts-encrypted : DecryptsEncrypted

@@ -9,9 +9,8 @@ use lib.Dec.{lit<, lit≤}
 use lib.ListN.{length, getD, length-append, List·getD-append}
 use lib.Seq.{getD-at}
 use Rattle.octets.specs.Values.{values}
-use Rattle.octets.proofs.Values.{getD-values, values-more}
+use Rattle.octets.proofs.Values.{getD-values, values-more, four}
 use Rattle.aes_field.specs.Words.{Column}
-use Rattle.aes_state.proofs.Grid.{four}
 use Rattle.aes.specs.State.{State, column, stateOf}
 use Rattle.aes.specs.Cipher.{addColumn}
 use Rattle.aes.specs.KeyExpansion.{temp, keyWord, words, roundKey, schedule, nextKey, extended}

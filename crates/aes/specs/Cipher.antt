@@ -26,9 +26,9 @@ unfoldable pub lastRound : State → State → State
 lastRound s k = addRoundKey (shiftRows (subBytes s)) k
 
 -- rounds 1 to n
-unfoldable pub rounds : List State → ℕ → State → State
-rounds ks zero s = s
-rounds ks (suc n) s = round (rounds ks n s) (getD ks (suc n) [])
+unfoldable pub firstRounds : List State → ℕ → State → State
+firstRounds ks zero s = s
+firstRounds ks (suc n) s = round (firstRounds ks n s) (getD ks (suc n) [])
 
 pub cipher : List State → List ℕ → List ℕ
-cipher ks b = bytesOf (lastRound (rounds ks 13 (addRoundKey (stateFrom b) (getD ks 0 []))) (getD ks 14 []))
+cipher ks b = bytesOf (lastRound (firstRounds ks 13 (addRoundKey (stateFrom b) (getD ks 0 []))) (getD ks 14 []))

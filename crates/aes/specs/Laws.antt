@@ -40,11 +40,11 @@ abbrev pub BlockTestsRise : Type 0
 BlockTestsRise = (key block : List ℕ) → rises (blockTests key block) ≡ true
 
 -- with a key and a block of the right length the answer is 0, and the block is what the standard makes of it
-abbrev pub EncryptsInRange : Type 0
-EncryptsInRange = (key block : List ℕ) → length key ≡ keySize → length block ≡ blockSize → encryptBlock key block ≡ (0, cipher (schedule key) block)
+abbrev pub EncryptBlockInRange : Type 0
+EncryptBlockInRange = (key block : List ℕ) → length key ≡ keySize → length block ≡ blockSize → encryptBlock key block ≡ (0, cipher (schedule key) block)
 
-abbrev pub DecryptsInRange : Type 0
-DecryptsInRange = (key block : List ℕ) → length key ≡ keySize → length block ≡ blockSize → decryptBlock key block ≡ (0, invCipher (schedule key) block)
+abbrev pub DecryptBlockInRange : Type 0
+DecryptBlockInRange = (key block : List ℕ) → length key ≡ keySize → length block ≡ blockSize → decryptBlock key block ≡ (0, invCipher (schedule key) block)
 
 -- what one call made of a block, the other makes the block again
 abbrev pub DecryptsEncrypted : Type 0

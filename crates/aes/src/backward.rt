@@ -1,4 +1,9 @@
 // The rounds of the inverse cipher (FIPS 197, section 5.3). The inverse S-box is lent down as a table, which `inv_sub` alone reads.
+use crate::MIDDLE_ROUNDS;
+use crate::RoundKeys;
+use aes_field::ByteTable;
+use aes_state::Column;
+use aes_state::State;
 use aes_state::add_round_key;
 use aes_state::inv_mix_columns;
 use aes_state::inv_shift_rows;
@@ -7,14 +12,14 @@ ghost use Rattle.aes_field.specs.Field.{invSbox};
 ghost use Rattle.aes_field.specs.Tables.{invSboxTable};
 ghost use Rattle.aes.specs.InvCipher.{invSubColumn, invSubBytes, invRound, invLastRound, invRounds};
 
-fn inv_sub(t: &[u8; 256], a: u8) -> u8
+fn inv_sub(t: &ByteTable, a: u8) -> u8
     requires { ⌜ now t ≡ invSboxTable ⌝ }
     ensures { λ r. ⌜ r ≡ invSbox a ⌝ }
 {
     t[a as usize]
 }
 
-fn inv_sub_column(t: &[u8; 256], a: [u8; 4]) -> [u8; 4]
+fn inv_sub_column(t: &ByteTable, a: Column) -> Column
     requires { ⌜ now t ≡ invSboxTable ⌝ }
     ensures { λ r. ⌜ r ≡ invSubColumn a ⌝ }
 {
@@ -26,7 +31,7 @@ fn inv_sub_column(t: &[u8; 256], a: [u8; 4]) -> [u8; 4]
     ]
 }
 
-fn inv_sub_bytes(t: &[u8; 256], s: [[u8; 4]; 4]) -> [[u8; 4]; 4]
+fn inv_sub_bytes(t: &ByteTable, s: State) -> State
     requires { ⌜ now t ≡ invSboxTable ⌝ }
     ensures { λ r. ⌜ r ≡ invSubBytes s ⌝ }
 {
@@ -38,7 +43,7 @@ fn inv_sub_bytes(t: &[u8; 256], s: [[u8; 4]; 4]) -> [[u8; 4]; 4]
     ]
 }
 
-fn inv_last_round(t: &[u8; 256], s: [[u8; 4]; 4], k: [[u8; 4]; 4]) -> [[u8; 4]; 4]
+fn inv_last_round(t: &ByteTable, s: State, k: State) -> State
     requires { ⌜ now t ≡ invSboxTable ⌝ }
     ensures { λ r. ⌜ r ≡ invLastRound s k ⌝ }
 {
@@ -46,7 +51,7 @@ fn inv_last_round(t: &[u8; 256], s: [[u8; 4]; 4], k: [[u8; 4]; 4]) -> [[u8; 4]; 
 }
 
 // The same steps, and then InvMixColumns.
-fn inv_round(t: &[u8; 256], s: [[u8; 4]; 4], k: [[u8; 4]; 4]) -> [[u8; 4]; 4]
+fn inv_round(t: &ByteTable, s: State, k: State) -> State
     requires { ⌜ now t ≡ invSboxTable ⌝ }
     ensures { λ r. ⌜ r ≡ invRound s k ⌝ }
 {
@@ -54,12 +59,12 @@ fn inv_round(t: &[u8; 256], s: [[u8; 4]; 4], k: [[u8; 4]; 4]) -> [[u8; 4]; 4]
 }
 
 // Rounds 13 to 1 undone, and then the first key.
-pub(crate) fn all_inv_rounds(t: &[u8; 256], ks: [[[u8; 4]; 4]; 15], s: [[u8; 4]; 4]) -> [[u8; 4]; 4]
+pub(crate) fn all_inv_rounds(t: &ByteTable, ks: RoundKeys, s: State) -> State
     requires { ⌜ now t ≡ invSboxTable ⌝ }
     ensures { λ r. ⌜ r ≡ invRounds ks 13 s ⌝ }
 {
     let mut x = s;
-    let mut i: usize = 13;
+    let mut i: usize = MIDDLE_ROUNDS;
     while 0 < i {
         let u = inv_round(t, x, ks[i]);
         x = u;

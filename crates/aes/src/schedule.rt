@@ -1,5 +1,10 @@
 // The key schedule (FIPS 197, section 5.2), four words at a time.
+use crate::Key;
+use crate::RoundKeys;
 use crate::forward::sub_column;
+use aes_field::ByteTable;
+use aes_state::Column;
+use aes_state::State;
 use aes_state::add_column;
 ghost use mathlib.Core.Path.{_≡_};
 ghost use mathlib.Core.List.{[], _∷_};
@@ -8,6 +13,9 @@ ghost use lib.ListN.{getD};
 ghost use Rattle.aes_field.specs.Tables.{sboxTable};
 ghost use Rattle.aes.specs.State.{stateOf};
 ghost use Rattle.aes.specs.KeyExpansion.{rotWord, power, temp, keyWord, nextKey, extended};
+
+// The round keys after the first two.
+const EXTENDED: usize = 13;
 
 // The constants that go into every second round key.
 const RCON: [u8; 7] = [1, 2, 4, 8, 16, 32, 64];
@@ -19,14 +27,14 @@ fn round_constant(j: usize) -> u8
     RCON[j]
 }
 
-fn rot_word(a: [u8; 4]) -> [u8; 4]
+fn rot_word(a: Column) -> Column
     ensures { λ r. ⌜ r ≡ rotWord a ⌝ }
 {
     [a[1], a[2], a[3], a[0]]
 }
 
 // The temp of the first word of round key n + 2, where a is the word before it.
-fn first_temp(t: &[u8; 256], n: usize, a: [u8; 4]) -> [u8; 4]
+fn first_temp(t: &ByteTable, n: usize, a: Column) -> Column
     requires { ⌜ (n < 13) × (now t ≡ sboxTable) ⌝ }
     ensures { λ r. ⌜ r ≡ temp (8 + 4 * n) a ⌝ }
 {
@@ -37,7 +45,7 @@ fn first_temp(t: &[u8; 256], n: usize, a: [u8; 4]) -> [u8; 4]
     sub_column(t, a)
 }
 
-fn next_key(k: [[u8; 4]; 4], t: [u8; 4]) -> [[u8; 4]; 4]
+fn next_key(k: State, t: Column) -> State
     ensures { λ r. ⌜ r ≡ nextKey k t ⌝ }
 {
     let w0 = add_column(k[0], t);
@@ -48,14 +56,14 @@ fn next_key(k: [[u8; 4]; 4], t: [u8; 4]) -> [[u8; 4]; 4]
 }
 
 // The first two round keys, and the thirteen that follow from them.
-pub(crate) fn extend(t: &[u8; 256], first: [[u8; 4]; 4], second: [[u8; 4]; 4]) -> [[[u8; 4]; 4]; 15]
+pub(crate) fn extend(t: &ByteTable, first: State, second: State) -> RoundKeys
     requires { ⌜ now t ≡ sboxTable ⌝ }
     ensures { λ r. ⌜ r ≡ extended (first ∷ second ∷ []) 13 ⌝ }
 {
     let mut ks = [first; 15];
     ks[1] = second;
     let mut n: usize = 0;
-    while n < 13 {
+    while n < EXTENDED {
         let w = first_temp(t, n, ks[n + 1][3]);
         let k = next_key(ks[n], w);
         ks[n + 2] = k;
@@ -65,14 +73,14 @@ pub(crate) fn extend(t: &[u8; 256], first: [[u8; 4]; 4], second: [[u8; 4]; 4]) -
 }
 
 // The word of the key that begins at a place.
-fn key_word(key: [u8; 32], at: usize) -> [u8; 4]
+fn key_word(key: Key, at: usize) -> Column
     requires { ⌜ at ≤ 28 ⌝ }
     ensures { λ r. ⌜ r ≡ getD key at 0 ∷ getD key (at + 1) 0 ∷ getD key (at + 2) 0 ∷ getD key (at + 3) 0 ∷ [] ⌝ }
 {
     [key[at], key[at + 1], key[at + 2], key[at + 3]]
 }
 
-pub(crate) fn first_key(key: [u8; 32]) -> [[u8; 4]; 4]
+pub(crate) fn first_key(key: Key) -> State
     ensures { λ r. ⌜ r ≡ stateOf (keyWord key) ⌝ }
 {
     [
@@ -83,7 +91,7 @@ pub(crate) fn first_key(key: [u8; 32]) -> [[u8; 4]; 4]
     ]
 }
 
-pub(crate) fn second_key(key: [u8; 32]) -> [[u8; 4]; 4]
+pub(crate) fn second_key(key: Key) -> State
     ensures { λ r. ⌜ r ≡ stateOf (λ c. keyWord key (4 + c)) ⌝ }
 {
     [

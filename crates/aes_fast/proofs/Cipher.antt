@@ -5,18 +5,20 @@ use mathlib.Core.List.{List, [], _∷_}
 use Prim.Native.Nat.{ℕ, zero, suc, _<_}
 use lib.ListN.{getD}
 use Rattle.octets.specs.Bytes.{Bytes}
+use Rattle.octets.proofs.Values.{four}
 use Rattle.aes_field.specs.Field.{times, sbox}
 use Rattle.aes_field.specs.Words.{Column}
 use Rattle.aes.specs.State.{State, column, stateFrom, bytesOf}
-use Rattle.aes.specs.Cipher.{mixColumn, addColumn, addRoundKey, round, lastRound, rounds, cipher}
+use Rattle.aes.specs.Cipher.{mixColumn, addColumn, addRoundKey, round, lastRound, firstRounds, cipher}
 use Rattle.aes.specs.Cipher.Inside.{cipher-is}
 use Rattle.aes.proofs.Keys.{AreKeys}
-use Rattle.aes.proofs.Invert.{IsState, add-state, rounds-state, block-state}
+use Rattle.aes_state.specs.Laws.{IsState}
+use Rattle.aes_state.proofs.Laws.{block-state, add-state}
+use Rattle.aes.proofs.Invert.{rounds-state}
 use Rattle.aes_fast.specs.ByTables.{Tables, roundColumnBy, lastColumnBy, roundBy, lastRoundBy, roundsBy, cipherBy}
 use Rattle.aes_fast.specs.ByTables.Inside.{cipherBy-is}
 use Rattle.aes_fast.specs.Right.{added, Right, Ready}
 use Rattle.aes_fast.specs.Laws.{Ciphered}
-use Rattle.aes_fast.proofs.Columns.{four}
 use Rattle.aes_fast.proofs.Entries.{entry-0, entry-1, entry-2, entry-3}
 
 -- what each byte of a column adds makes the mixed column
@@ -72,8 +74,8 @@ module _ (t : Tables) (right : Right t) {s : State} (w : IsState s) (k : State) 
 -- ---- all rounds, of a block
 
 module _ (t : Tables) (ks : List State) (keys : AreKeys ks) (right : Right t) where
-  roundsBy-right : (n : ℕ) {s : State} → IsState s → roundsBy t ks n s ≡ rounds ks n s
-  unfolding roundsBy rounds
+  roundsBy-right : (n : ℕ) {s : State} → IsState s → roundsBy t ks n s ≡ firstRounds ks n s
+  unfolding roundsBy firstRounds
   roundsBy-right zero w = refl
   roundsBy-right (suc n) w =
       ap (λ (x : State). roundBy t x (getD ks (suc n) [])) (roundsBy-right n w)
@@ -81,7 +83,7 @@ module _ (t : Tables) (ks : List State) (keys : AreKeys ks) (right : Right t) wh
 
   pub cipherBy-right : (b : List ℕ) → Bytes b → cipherBy t ks b ≡ cipher ks b
   cipherBy-right b bytes =
-      let first : IsState (addRoundKey (stateFrom b) (getD ks 0 [])) = add-state (block-state bytes) (getD ks 0 []) (keys 0) in
+      let first : IsState (addRoundKey (stateFrom b) (getD ks 0 [])) = add-state _ (getD ks 0 []) (block-state _ bytes) (keys 0) in
       cipherBy-is t ks b
       ∙ ap (λ (x : State). bytesOf (lastRoundBy t x (getD ks 14 []))) (roundsBy-right 13 first)
       ∙ ap bytesOf (lastRoundBy-right t right (rounds-state ks keys 13 first) (getD ks 14 []))

@@ -5,16 +5,12 @@ use mathlib.Core.List.{[], _∷_}
 use Prim.Native.Nat.{ℕ, _+_, _*_, _/_, _%_, _^_, _<_}
 use native.Mathlib.Omega.{arith}
 use lib.Bits.{bitXor, xor-shr, xor-mod}
+use Rattle.octets.proofs.Values.{four}
 use Rattle.aes_field.specs.Words.{Column, columnOf}
 use Rattle.aes.specs.Cipher.{addColumn}
 use Rattle.aes_fast.specs.ByTables.{columnFrom}
 use Rattle.aes_fast.specs.ByTables.Inside.{columnFrom-is}
 use Rattle.aes_fast.specs.Right.{wordFrom}
-
--- lists of four are equal by their elements
-
-pub four : {A : Type 0} {a b c d a′ b′ c′ d′ : A} → a ≡ a′ → b ≡ b′ → c ≡ c′ → d ≡ d′ → a ∷ b ∷ c ∷ d ∷ [] ≡ a′ ∷ b′ ∷ c′ ∷ d′ ∷ []
-four p q r s = cc
 
 -- ---- exclusive or
 

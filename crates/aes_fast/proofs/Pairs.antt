@@ -7,6 +7,7 @@ use native.Mathlib.Omega.{arith}
 use lib.Bits.{bitXor, xor-shr}
 use lib.ListN.{getD}
 use Rattle.octets.specs.Xor.{xors}
+use Rattle.octets.proofs.Values.{four}
 use Rattle.aes_field.specs.Words.{Column}
 use Rattle.aes.specs.State.{State, column, stateFrom, bytesOf}
 use Rattle.aes.specs.Cipher.{addColumn, addRoundKey}
@@ -15,7 +16,7 @@ use Rattle.aes_fast.specs.ByTables.Inside.{columnFrom-is}
 use Rattle.aes_fast.specs.Halves.{columnsOf, halvesBlock, wordBytes}
 use Rattle.aes_fast.specs.Halves.Inside.{columnsOf-is, halvesBlock-is}
 use Rattle.aes_fast.specs.declared.halves.Halves.{Halves}
-use Rattle.aes_fast.proofs.Columns.{four, columnFrom-xor}
+use Rattle.aes_fast.proofs.Columns.{columnFrom-xor}
 
 -- ---- the rows of the low column, and of the high one
 

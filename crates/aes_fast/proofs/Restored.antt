@@ -10,17 +10,18 @@ use mathlib.Core.List.{List, []}
 use Rattle.octets.specs.Bytes.{Bytes}
 use Rattle.octets.proofs.Bytes.{bytes-nil, bytes-cons, bytes-append}
 use Rattle.octets.proofs.Xor.{xor-byte}
+use Rattle.octets.proofs.Values.{four}
 use lib.Bits.{bitXor}
 use Rattle.aes_field.specs.Words.{Column}
 use Rattle.aes.specs.State.{State, column, stateFrom}
 use Rattle.aes.specs.Cipher.{addColumn, addRoundKey}
-use Rattle.aes_fast.specs.ByTables.{Tables, columnFrom, entryAt, mixedBy, lastColumnBy, lastRoundBy, cipherBy}
+use Rattle.aes_fast.specs.ByTables.{Tables, columnFrom, tableEntry, mixedBy, lastColumnBy, lastRoundBy, cipherBy}
 use Rattle.aes_fast.specs.ByTables.Inside.{columnFrom-is, cipherBy-is}
 use Rattle.aes_fast.specs.Right.{wordFrom}
 use Rattle.aes_fast.specs.Halves.{columnsOf, halvesBlock, wordBytes, halvesFrom}
 use Rattle.aes_fast.specs.Halves.Inside.{columnsOf-is, halvesBlock-is}
 use Rattle.aes_fast.specs.declared.halves.Halves.{Halves}
-use Rattle.aes_fast.proofs.Columns.{four, columnFrom-wordFrom}
+use Rattle.aes_fast.proofs.Columns.{columnFrom-wordFrom}
 use Rattle.aes_fast.proofs.Pairs.{low-part, low-column, high-column, halvesBlock-words, columnsOf-block}
 
 -- ---- from words and back
@@ -74,7 +75,7 @@ bytes-mixedBy t a b c d k hk =
 
 bytes-lastColumnBy : (t : Tables) (a b c d : ℕ) (k : Column) → Bytes k → Bytes (lastColumnBy t a b c d k)
 bytes-lastColumnBy t a b c d k hk =
-    let row : (n : ℕ) → getD (entryAt t 0 n) 1 0 < 256 = λ n. bytes-columnFrom (getD (getD t 0 []) n 0) .byte 1 in
+    let row : (n : ℕ) → getD (tableEntry t 0 n) 1 0 < 256 = λ n. bytes-columnFrom (getD (getD t 0 []) n 0) .byte 1 in
     bytes-addColumn (bytes-cons (row a) (bytes-cons (row b) (bytes-cons (row c) (bytes-cons (row d) bytes-nil)))) hk
 
 module _ (t : Tables) (ks : List State) (b : List ℕ) where

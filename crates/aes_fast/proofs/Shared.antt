@@ -7,12 +7,12 @@ use Prim.Native.Nat.{ℕ}
 use lib.Bits.{bitXor, xor-comm}
 use lib.ListN.{getD}
 use Rattle.octets.proofs.Xor.{xor-assoc, xor-cancel}
+use Rattle.octets.proofs.Values.{four}
 use Rattle.aes_field.specs.Words.{Column, columnOf}
 use Rattle.aes.specs.State.{State, column}
 use Rattle.aes.specs.Cipher.{addColumn, addRoundKey}
-use Rattle.aes_fast.specs.ByTables.{Tables, entryAt, roundBy}
+use Rattle.aes_fast.specs.ByTables.{Tables, tableEntry, roundBy}
 use Rattle.aes_fast.specs.Start.{columnAdds}
-use Rattle.aes_fast.proofs.Columns.{four}
 
 -- ---- of numbers: in the sum of a, b, c, d and k one term is taken away and another put there
 
@@ -72,14 +72,14 @@ module _ (t : Tables) (k : State) where
   -- another last byte changes column 0 of the next round
   pub round-last : (x₀ x₁ x₂ : Column) (p q r last other : ℕ)
       → roundBy t (x₀ ∷ x₁ ∷ x₂ ∷ (p ∷ q ∷ r ∷ other ∷ []) ∷ []) k
-      ≡ addColumn (addColumn (column (roundBy t (x₀ ∷ x₁ ∷ x₂ ∷ (p ∷ q ∷ r ∷ last ∷ []) ∷ []) k) 0) (entryAt t 3 last)) (entryAt t 3 other)
+      ≡ addColumn (addColumn (column (roundBy t (x₀ ∷ x₁ ∷ x₂ ∷ (p ∷ q ∷ r ∷ last ∷ []) ∷ []) k) 0) (tableEntry t 3 last)) (tableEntry t 3 other)
       ∷ column (roundBy t (x₀ ∷ x₁ ∷ x₂ ∷ (p ∷ q ∷ r ∷ last ∷ []) ∷ []) k) 1
       ∷ column (roundBy t (x₀ ∷ x₁ ∷ x₂ ∷ (p ∷ q ∷ r ∷ last ∷ []) ∷ []) k) 2
       ∷ column (roundBy t (x₀ ∷ x₁ ∷ x₂ ∷ (p ∷ q ∷ r ∷ last ∷ []) ∷ []) k) 3 ∷ []
   unfolding roundBy
   round-last x₀ x₁ x₂ p q r last other =
       four
-      (sym (sum-d (entryAt t 0 (getD x₀ 0 0)) (entryAt t 1 (getD x₁ 1 0)) (entryAt t 2 (getD x₂ 2 0)) (entryAt t 3 last) (column k 0) (entryAt t 3 other)))
+      (sym (sum-d (tableEntry t 0 (getD x₀ 0 0)) (tableEntry t 1 (getD x₁ 1 0)) (tableEntry t 2 (getD x₂ 2 0)) (tableEntry t 3 last) (column k 0) (tableEntry t 3 other)))
       refl refl refl
 
   -- another column 0 changes one entry in each column of the next round
@@ -88,7 +88,7 @@ module _ (t : Tables) (k : State) where
   unfolding roundBy
   round-column y₀ y₁ y₂ y₃ y =
       four
-      (sym (sum-a (entryAt t 0 (getD y₀ 0 0)) (entryAt t 1 (getD y₁ 1 0)) (entryAt t 2 (getD y₂ 2 0)) (entryAt t 3 (getD y₃ 3 0)) (column k 0) (entryAt t 0 (getD y 0 0))))
-      (sym (sum-d (entryAt t 0 (getD y₁ 0 0)) (entryAt t 1 (getD y₂ 1 0)) (entryAt t 2 (getD y₃ 2 0)) (entryAt t 3 (getD y₀ 3 0)) (column k 1) (entryAt t 3 (getD y 3 0))))
-      (sym (sum-c (entryAt t 0 (getD y₂ 0 0)) (entryAt t 1 (getD y₃ 1 0)) (entryAt t 2 (getD y₀ 2 0)) (entryAt t 3 (getD y₁ 3 0)) (column k 2) (entryAt t 2 (getD y 2 0))))
-      (sym (sum-b (entryAt t 0 (getD y₃ 0 0)) (entryAt t 1 (getD y₀ 1 0)) (entryAt t 2 (getD y₁ 2 0)) (entryAt t 3 (getD y₂ 3 0)) (column k 3) (entryAt t 1 (getD y 1 0))))
+      (sym (sum-a (tableEntry t 0 (getD y₀ 0 0)) (tableEntry t 1 (getD y₁ 1 0)) (tableEntry t 2 (getD y₂ 2 0)) (tableEntry t 3 (getD y₃ 3 0)) (column k 0) (tableEntry t 0 (getD y 0 0))))
+      (sym (sum-d (tableEntry t 0 (getD y₁ 0 0)) (tableEntry t 1 (getD y₂ 1 0)) (tableEntry t 2 (getD y₃ 2 0)) (tableEntry t 3 (getD y₀ 3 0)) (column k 1) (tableEntry t 3 (getD y 3 0))))
+      (sym (sum-c (tableEntry t 0 (getD y₂ 0 0)) (tableEntry t 1 (getD y₃ 1 0)) (tableEntry t 2 (getD y₀ 2 0)) (tableEntry t 3 (getD y₁ 3 0)) (column k 2) (tableEntry t 2 (getD y 2 0))))
+      (sym (sum-b (tableEntry t 0 (getD y₃ 0 0)) (tableEntry t 1 (getD y₀ 1 0)) (tableEntry t 2 (getD y₁ 2 0)) (tableEntry t 3 (getD y₂ 3 0)) (column k 3) (tableEntry t 1 (getD y 1 0))))

@@ -13,7 +13,7 @@ use Rattle.octets.proofs.Values.{values-list}
 use Rattle.aes_field.specs.Words.{Column}
 use Rattle.aes.specs.State.{State, column, stateFrom, bytesOf}
 use Rattle.aes.specs.Cipher.{addColumn, addRoundKey}
-use Rattle.aes_fast.specs.ByTables.{Tables, columnFrom, entryAt, shifted, roundBy, roundsBy, roundsAfter, laterRoundsBy, cipherBy}
+use Rattle.aes_fast.specs.ByTables.{Tables, columnFrom, tableEntry, shifted, roundBy, roundsBy, roundsAfter, laterRoundsBy, cipherBy}
 use Rattle.aes_fast.specs.ByTables.Inside.{cipherBy-is}
 use Rattle.aes_fast.specs.Right.{wordFrom}
 use Rattle.aes_fast.specs.Halves.{columnsOf, halvesBlock, halvesFrom}
@@ -59,7 +59,7 @@ module _ (t : Tables) (ks : List State) (b : List ℕ) where
   pub start-steps : (r : Start) (x y z add : Halves)
       → columnsOf x ≡ stateAfter t ks 0 b → columnsOf y ≡ stateAfter t ks 1 b → columnsOf z ≡ stateAfter t ks 2 b
       → r .key ≡ getD (column (getD ks 0 []) 3) 3 0
-      → columnFrom (r .first) ≡ addColumn (columnFrom (y .first % 4294967296)) (entryAt t 3 (x .second / 72057594037927936 % 256))
+      → columnFrom (r .first) ≡ addColumn (columnFrom (y .first % 4294967296)) (tableEntry t 3 (x .second / 72057594037927936 % 256))
       → columnsOf add ≡ columnAdds t (columnFrom (y .first % 4294967296))
       → halvesBlock (r .second) ≡ xors (halvesBlock z) (halvesBlock add)
       → r .first < 4294967296 → r .second .first < 2 ^ 64 → r .second .second < 2 ^ 64
@@ -69,7 +69,7 @@ module _ (t : Tables) (ks : List State) (b : List ℕ) where
       start-equal r (startBy t ks b) (key ∙ sym (start-key t ks b))
       (wordFrom-columnFrom (r .first) fits
       ∙ ap wordFrom
-      (first ∙ ap₂ (λ (a : Column) (n : ℕ). addColumn a (entryAt t 3 n)) u (last-byte x ∙ ap (λ (s : State). shifted s 0 3) ex))
+      (first ∙ ap₂ (λ (a : Column) (n : ℕ). addColumn a (tableEntry t 3 n)) u (last-byte x ∙ ap (λ (s : State). shifted s 0 3) ex))
       ∙ sym (start-first t ks b))
       (halvesFrom-columnsOf (r .second) low high
       ∙ ap halvesFrom (columnsOf-xor z add (r .second) second ∙ ap₂ addRoundKey ez (adds ∙ ap (columnAdds t) u))
@@ -91,7 +91,7 @@ module _ (t : Tables) (ks : List State) (b : List ℕ) (low : ℕ) (keys : (n c 
 
   -- column 0 of round 1, without what the last byte adds
   abbrev first : Column
-  first = addColumn (column (stateAfter t ks 1 b) 0) (entryAt t 3 last)
+  first = addColumn (column (stateAfter t ks 1 b) 0) (tableEntry t 3 last)
 
   bytes-1 : Bytes (column (stateAfter t ks 1 b) 0)
   unfolding roundsBy roundBy
@@ -99,7 +99,7 @@ module _ (t : Tables) (ks : List State) (b : List ℕ) (low : ℕ) (keys : (n c 
 
   first-restored : columnFrom (startBy t ks b .first) ≡ first
   unfolding roundsBy
-  first-restored = ap columnFrom (start-first t ks b) ∙ columnFrom-sum (column (stateAfter t ks 1 b) 0) (entryAt t 3 last) bytes-1 (bytes-columnFrom _)
+  first-restored = ap columnFrom (start-first t ks b) ∙ columnFrom-sum (column (stateAfter t ks 1 b) 0) (tableEntry t 3 last) bytes-1 (bytes-columnFrom _)
 
   bytes-2 : (c : ℕ) → Bytes (column (stateAfter t ks 2 b) c)
   unfolding roundsBy roundBy
@@ -123,25 +123,25 @@ module _ (t : Tables) (ks : List State) (b : List ℕ) (low : ℕ) (keys : (n c 
 
   -- the two rounds of the block with the other last byte
   round-1 : stateAfter t ks 1 (withLast b low)
-      ≡ addColumn first (entryAt t 3 other) ∷ column (stateAfter t ks 1 b) 1 ∷ column (stateAfter t ks 1 b) 2 ∷ column (stateAfter t ks 1 b) 3 ∷ []
+      ≡ addColumn first (tableEntry t 3 other) ∷ column (stateAfter t ks 1 b) 1 ∷ column (stateAfter t ks 1 b) 2 ∷ column (stateAfter t ks 1 b) 3 ∷ []
   unfolding roundsBy
   round-1 =
       ap (λ (s : State). roundBy t (addRoundKey s (getD ks 0 [])) (getD ks 1 [])) (stateFrom-withLast b low sixteen)
       ∙ round-last t (getD ks 1 []) _ _ _ _ _ _ last other
 
   round-2 : stateAfter t ks 2 (withLast b low)
-      ≡ addRoundKey (addRoundKey (stateAfter t ks 2 b) (columnAdds t (column (stateAfter t ks 1 b) 0))) (columnAdds t (addColumn first (entryAt t 3 other)))
+      ≡ addRoundKey (addRoundKey (stateAfter t ks 2 b) (columnAdds t (column (stateAfter t ks 1 b) 0))) (columnAdds t (addColumn first (tableEntry t 3 other)))
   unfolding roundsBy roundBy
   round-2 =
       ap (λ (s : State). roundBy t s (getD ks 2 [])) round-1
       ∙ round-column t (getD ks 2 []) (column (stateAfter t ks 1 b) 0) (column (stateAfter t ks 1 b) 1) (column (stateAfter t ks 1 b) 2) (column (stateAfter t ks 1 b) 3)
-      (addColumn first (entryAt t 3 other))
+      (addColumn first (tableEntry t 3 other))
 
   begun-is : begunBy t (startBy t ks b) low ≡ stateAfter t ks 2 (withLast b low)
   unfolding begunBy
   begun-is =
       ap₂ (λ (s : State) (a : Column). addRoundKey s (columnAdds t a)) second-restored
-      (ap₂ (λ (a : Column) (k : ℕ). addColumn a (entryAt t 3 (bitXor low k))) first-restored (start-key t ks b))
+      (ap₂ (λ (a : Column) (k : ℕ). addColumn a (tableEntry t 3 (bitXor low k))) first-restored (start-key t ks b))
       ∙ sym round-2
 
   pub from-start : cipherFrom t ks (startBy t ks b) low ≡ cipherBy t ks (withLast b low)
@@ -157,9 +157,9 @@ bytes-withLast h l = bytes-append (bytes-take 15 h) (bytes-cons l bytes-nil)
 -- ---- the code's state after round 2
 
 pub begun-steps : (t : Tables) (s : Start) (low last : ℕ) (u : Column) (add r : Halves) → last ≡ bitXor low (s .key) → last < 256
-    → u ≡ addColumn (columnFrom (s .first)) (entryAt t 3 (last % 256)) → columnsOf add ≡ columnAdds t u
+    → u ≡ addColumn (columnFrom (s .first)) (tableEntry t 3 (last % 256)) → columnsOf add ≡ columnAdds t u
     → halvesBlock r ≡ xors (halvesBlock (s .second)) (halvesBlock add) → columnsOf r ≡ begunBy t s low
 unfolding begunBy
 begun-steps t s low last u add r is fits e adds sum =
     let same : last % 256 ≡ last = omega arith in
-    columnsOf-xor (s .second) add r sum ∙ ap (addRoundKey (columnsOf (s .second))) (adds ∙ ap (columnAdds t) (e ∙ ap (λ (n : ℕ). addColumn (columnFrom (s .first)) (entryAt t 3 n)) (same ∙ is)))
+    columnsOf-xor (s .second) add r sum ∙ ap (addRoundKey (columnsOf (s .second))) (adds ∙ ap (columnAdds t) (e ∙ ap (λ (n : ℕ). addColumn (columnFrom (s .first)) (tableEntry t 3 n)) (same ∙ is)))

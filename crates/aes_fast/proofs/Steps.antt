@@ -6,7 +6,7 @@ use Prim.Native.Nat.{ℕ, suc, _+_, _-_, _≤_}
 use native.Mathlib.Omega.{arith}
 use lib.ListN.{getD}
 use Rattle.octets.specs.Xor.{xors}
-use Rattle.aes.specs.State.{State, column, stateOf, stateFrom, bytes, bytesOf}
+use Rattle.aes.specs.State.{State, column, stateOf, stateFrom, columnBytes, bytesOf}
 use Rattle.aes.specs.Cipher.{addRoundKey}
 use Rattle.aes_fast.specs.ByTables.{Tables, roundBy, lastRoundBy, roundsBy, roundsAfter, laterRoundsBy, cipherBy}
 use Rattle.aes_fast.specs.ByTables.Inside.{cipherBy-is}
@@ -20,7 +20,7 @@ use Rattle.aes_fast.proofs.Pairs.{columnsOf-block, columnsOf-xor}
 
 -- a round key as the words hold it: four rows of each column
 abbrev pub keyBytes : State → State
-keyBytes k = stateOf (λ c. bytes (column k c))
+keyBytes k = stateOf (λ c. columnBytes (column k c))
 
 module _ (t : Tables) where
   -- a round reads no more of its key

@@ -16,13 +16,12 @@ use Rattle.octets.specs.Tests.{partOf}
 use Rattle.octets.specs.Values.{values}
 use Rattle.octets.proofs.Lent.{over-fits}
 use Rattle.octets.proofs.Tests.{length-part}
-use Rattle.octets.proofs.Values.{cons-equal, values-from, values-part, values-list}
+use Rattle.octets.proofs.Values.{cons-equal, values-from, values-part, values-list, four}
 use Rattle.aes_field.specs.Words.{Column}
-use Rattle.aes.specs.State.{bytes, bytesOf}
+use Rattle.aes.specs.State.{columnBytes, bytesOf}
 use Rattle.aes_fast.specs.Halves.{columnsOf, halvesBlock, wordBytes, blockAt}
 use Rattle.aes_fast.specs.Halves.Inside.{halvesBlock-is}
 use Rattle.aes_fast.specs.declared.halves.Halves.{Halves}
-use Rattle.aes_fast.proofs.Columns.{four}
 use Rattle.aes_fast.proofs.Pairs.{wordBytes-is, halvesBlock-words}
 use Rattle.aes_fast.proofs.Restored.{length-halvesBlock}
 
@@ -52,7 +51,7 @@ module _ (s : List ℕ) (i : ℕ) where
       ∙ ap (λ (l : List ℕ). partOf s i 4 ++ l) (part-joined s (i + 4) 4 8 (i + 8) (omega arith))
       ∙ part-joined s i 4 12 (i + 4) refl
     where
-      all : (k : ℕ) → k + 4 ≤ length s → bytes (partOf s k 4) ≡ partOf s k 4
+      all : (k : ℕ) → k + 4 ≤ length s → columnBytes (partOf s k 4) ≡ partOf s k 4
       all k h = values-list (partOf s k 4) 0 4 (length-part s k 4 h)
 
       joined : {a b c d : List ℕ} → a ≡ c → b ≡ d → a ++ b ≡ c ++ d

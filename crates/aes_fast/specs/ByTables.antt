@@ -16,8 +16,8 @@ pub columnFrom : ℕ → Column
 columnFrom w = w % 256 ∷ w / 256 % 256 ∷ w / 65536 % 256 ∷ w / 16777216 % 256 ∷ []
 
 -- what table n has for the byte a
-abbrev pub entryAt : Tables → ℕ → ℕ → Column
-entryAt t n a = columnFrom (getD (getD t n []) a 0)
+abbrev pub tableEntry : Tables → ℕ → ℕ → Column
+tableEntry t n a = columnFrom (getD (getD t n []) a 0)
 
 -- the byte in row r that ShiftRows brings to column c
 abbrev pub shifted : State → ℕ → ℕ → ℕ
@@ -25,11 +25,11 @@ shifted s c r = getD (column s ((c + r) % 4)) r 0
 
 -- for the bytes a, b, c and d, in rows 0 to 3: what each one's table has, together
 abbrev pub mixedBy : Tables → ℕ → ℕ → ℕ → ℕ → Column
-mixedBy t a b c d = addColumn (addColumn (addColumn (entryAt t 0 a) (entryAt t 1 b)) (entryAt t 2 c)) (entryAt t 3 d)
+mixedBy t a b c d = addColumn (addColumn (addColumn (tableEntry t 0 a) (tableEntry t 1 b)) (tableEntry t 2 c)) (tableEntry t 3 d)
 
 -- and row 1 of what table 0 has for each
 abbrev pub substitutedBy : Tables → ℕ → ℕ → ℕ → ℕ → Column
-substitutedBy t a b c d = getD (entryAt t 0 a) 1 0 ∷ getD (entryAt t 0 b) 1 0 ∷ getD (entryAt t 0 c) 1 0 ∷ getD (entryAt t 0 d) 1 0 ∷ []
+substitutedBy t a b c d = getD (tableEntry t 0 a) 1 0 ∷ getD (tableEntry t 0 b) 1 0 ∷ getD (tableEntry t 0 c) 1 0 ∷ getD (tableEntry t 0 d) 1 0 ∷ []
 
 -- a column of a round, and of the last round, with the key
 abbrev pub roundColumnBy : Tables → ℕ → ℕ → ℕ → ℕ → Column → Column

@@ -1,6 +1,8 @@
 // A block, and a state, as two words of 64 bits: columns 0 and 1, and columns 2 and 3, the first byte lowest.
-use crate::words::word;
+use crate::words::column_word;
 use crate::words::word_at;
+use aes_state::State;
+use octets::strings::Block;
 use octets::strings::put;
 ghost use mathlib.Core.Path.{_≡_};
 ghost use mathlib.Core.List.{[], _∷_, _++_};
@@ -10,7 +12,7 @@ ghost use lib.ListN.{length, take, drop};
 ghost use Rattle.octets.specs.Lent.{over};
 ghost use Rattle.octets.specs.Tests.{partOf};
 ghost use Rattle.octets.specs.Xor.{xors};
-ghost use Rattle.aes.specs.State.{column, stateOf, bytes};
+ghost use Rattle.aes.specs.State.{column, stateOf, columnBytes};
 ghost use Rattle.aes_fast.specs.ByTables.{columnFrom};
 ghost use Rattle.aes_fast.specs.Halves.{columnsOf, halvesBlock, wordBytes, blockAt};
 
@@ -39,10 +41,15 @@ pub(crate) fn from_columns(a: u32, b: u32, c: u32, d: u32) -> Halves
     }
 }
 
-pub(crate) fn halves_of(s: [[u8; 4]; 4]) -> Halves
-    ensures { λ r. ⌜ columnsOf r ≡ stateOf (λ c. bytes (column s c)) ⌝ }
+pub(crate) fn halves_of(s: State) -> Halves
+    ensures { λ r. ⌜ columnsOf r ≡ stateOf (λ c. columnBytes (column s c)) ⌝ }
 {
-    from_columns(word(s[0]), word(s[1]), word(s[2]), word(s[3]))
+    from_columns(
+        column_word(s[0]),
+        column_word(s[1]),
+        column_word(s[2]),
+        column_word(s[3]),
+    )
 }
 
 fn whole_at(s: &[u8], i: usize) -> Halves
@@ -57,7 +64,7 @@ fn whole_at(s: &[u8], i: usize) -> Halves
     )
 }
 
-pub fn halves_from(b: [u8; 16]) -> Halves
+pub fn halves_from(b: Block) -> Halves
     ensures { λ r. ⌜ halvesBlock r ≡ b ⌝ }
 {
     whole_at(&b, 0)
@@ -118,7 +125,7 @@ fn put_whole(out: &mut [u8], h: Halves)
     write_word(out, 8, h.second);
 }
 
-pub fn block(h: Halves) -> [u8; 16]
+pub fn block(h: Halves) -> Block
     ensures { λ r. ⌜ r ≡ halvesBlock h ⌝ }
 {
     let mut b = [0u8; 16];

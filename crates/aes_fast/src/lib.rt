@@ -8,12 +8,14 @@ mod row_3;
 pub mod start;
 mod words;
 
+use aes::RoundKeys;
 use halves::Both;
 use halves::Halves;
 use halves::add_halves;
 use halves::block;
 use halves::halves_from;
 use halves::halves_of;
+use octets::strings::Block;
 use rounds::round;
 use rounds::rounds_after;
 use rounds::rounds_after_two;
@@ -30,34 +32,32 @@ ghost use Rattle.aes_fast.specs.Halves.{halvesBlock};
 ghost use Rattle.aes_fast.specs.Start.{cipherFrom};
 ghost use Rattle.aes_fast.specs.Laws.{Ciphered};
 
+// For each row, a word for each byte.
+pub type Tables = [[u32; 256]; 4];
+
 // The four tables, 4,096 bytes: for a byte in each row, what it adds to a mixed column.
-pub fn round_tables() -> [[u32; 256]; 4]
+pub fn round_tables() -> Tables
     ensures { λ r. ⌜ r ≡ roundTables ⌝ }
 {
     [ROW_0, ROW_1, ROW_2, ROW_3]
 }
 
-pub fn encrypt(t: &[[u32; 256]; 4], ks: &[[[u8; 4]; 4]; 15], b: [u8; 16]) -> [u8; 16]
+pub fn encrypt(t: &Tables, ks: &RoundKeys, b: Block) -> Block
     ensures { λ r. ⌜ Ciphered (now (t .entry)) (now (ks .entry)) (λ f. f b) r ⌝ }
 {
     block(rounds_after(t, ks, 0, add_halves(halves_from(b), halves_of(ks[0]))))
 }
 
 // The block that ends with the byte `low`, from what it shares with others.
-pub fn encrypt_from(t: &[[u32; 256]; 4], ks: &[[[u8; 4]; 4]; 15], s: Start, low: u8) -> Halves
+pub fn encrypt_from(t: &Tables, ks: &RoundKeys, s: Start, low: u8) -> Halves
     ensures { λ r. ⌜ halvesBlock r ≡ cipherFrom (now (t .entry)) (now (ks .entry)) s low ⌝ }
 {
     rounds_after(t, ks, 2, begun(t, s, low))
 }
 
-pub fn encrypt_two_from(
-    t: &[[u32; 256]; 4],
-    ks: &[[[u8; 4]; 4]; 15],
-    s: Start,
-    low: u8,
-    next: u8,
-) -> Both
-    ensures { λ r. ⌜ (halvesBlock (r .one) ≡ cipherFrom (now (t .entry)) (now (ks .entry)) s low) × (halvesBlock (r .other) ≡ cipherFrom (now (t .entry)) (now (ks .entry)) s next) ⌝ }
+pub fn encrypt_two_from(t: &Tables, ks: &RoundKeys, s: Start, low: u8, next: u8) -> Both
+    ensures { λ r. ⌜ halvesBlock (r .one) ≡ cipherFrom (now (t .entry)) (now (ks .entry)) s low ⌝ }
+    ensures { λ r. ⌜ halvesBlock (r .other) ≡ cipherFrom (now (t .entry)) (now (ks .entry)) s next ⌝ }
 {
     let both = Both {
         one: begun(t, s, low),
@@ -67,14 +67,9 @@ pub fn encrypt_two_from(
 }
 
 // Any block, beside one that begins with others.
-pub fn encrypt_beside(
-    t: &[[u32; 256]; 4],
-    ks: &[[[u8; 4]; 4]; 15],
-    b: Halves,
-    s: Start,
-    low: u8,
-) -> Both
-    ensures { λ r. ⌜ (halvesBlock (r .one) ≡ cipherBy (now (t .entry)) (now (ks .entry)) (halvesBlock b)) × (halvesBlock (r .other) ≡ cipherFrom (now (t .entry)) (now (ks .entry)) s low) ⌝ }
+pub fn encrypt_beside(t: &Tables, ks: &RoundKeys, b: Halves, s: Start, low: u8) -> Both
+    ensures { λ r. ⌜ halvesBlock (r .one) ≡ cipherBy (now (t .entry)) (now (ks .entry)) (halvesBlock b) ⌝ }
+    ensures { λ r. ⌜ halvesBlock (r .other) ≡ cipherFrom (now (t .entry)) (now (ks .entry)) s low ⌝ }
 {
     let x = add_halves(b, halves_of(ks[0]));
     let y = round(t, x, halves_of(ks[1]));

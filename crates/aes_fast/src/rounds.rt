@@ -1,17 +1,21 @@
 // The rounds by tables, over a state in two words. A byte of a word is its place in a table.
+use crate::Tables;
 use crate::halves::Both;
 use crate::halves::Halves;
 use crate::halves::add_halves;
 use crate::halves::from_columns;
 use crate::halves::halves_of;
 use crate::words::word_of;
+use aes::LAST_ROUND;
+use aes::MIDDLE_ROUNDS;
+use aes::RoundKeys;
 ghost use mathlib.Core.Path.{_≡_};
 ghost use Prim.Native.Nat.{_%_, _≤_};
 ghost use lib.ListN.{getD};
-ghost use Rattle.aes_fast.specs.ByTables.{columnFrom, entryAt, mixedBy, substitutedBy, roundBy, lastRoundBy, laterRoundsBy};
+ghost use Rattle.aes_fast.specs.ByTables.{columnFrom, tableEntry, mixedBy, substitutedBy, roundBy, lastRoundBy, laterRoundsBy};
 ghost use Rattle.aes_fast.specs.Halves.{columnsOf};
 
-fn mixed_column(t: &[[u32; 256]; 4], a: u64, b: u64, c: u64, d: u64) -> u32
+fn mixed_column(t: &Tables, a: u64, b: u64, c: u64, d: u64) -> u32
     ensures { λ r. ⌜ columnFrom r ≡ mixedBy (now (t .entry)) (a % 256) (b % 256) (c % 256) (d % 256) ⌝ }
 {
     t[0][(a % 256) as usize]
@@ -20,7 +24,7 @@ fn mixed_column(t: &[[u32; 256]; 4], a: u64, b: u64, c: u64, d: u64) -> u32
         ^ t[3][(d % 256) as usize]
 }
 
-pub(crate) fn round(t: &[[u32; 256]; 4], s: Halves, k: Halves) -> Halves
+pub(crate) fn round(t: &Tables, s: Halves, k: Halves) -> Halves
     ensures { λ r. ⌜ columnsOf r ≡ roundBy (now (t .entry)) (columnsOf s) (columnsOf k) ⌝ }
 {
     let a = s.first;
@@ -45,19 +49,19 @@ pub(crate) fn round(t: &[[u32; 256]; 4], s: Halves, k: Halves) -> Halves
 }
 
 // Row 1 of what table 0 has for a byte.
-fn row_one(t: &[[u32; 256]; 4], a: u64) -> u8
-    ensures { λ r. ⌜ r ≡ getD (entryAt (now (t .entry)) 0 (a % 256)) 1 0 ⌝ }
+fn row_one(t: &Tables, a: u64) -> u8
+    ensures { λ r. ⌜ r ≡ getD (tableEntry (now (t .entry)) 0 (a % 256)) 1 0 ⌝ }
 {
     (t[0][(a % 256) as usize] / 256 % 256) as u8
 }
 
-fn last_column(t: &[[u32; 256]; 4], a: u64, b: u64, c: u64, d: u64) -> u32
+fn last_column(t: &Tables, a: u64, b: u64, c: u64, d: u64) -> u32
     ensures { λ r. ⌜ columnFrom r ≡ substitutedBy (now (t .entry)) (a % 256) (b % 256) (c % 256) (d % 256) ⌝ }
 {
     word_of(row_one(t, a), row_one(t, b), row_one(t, c), row_one(t, d))
 }
 
-fn last_round(t: &[[u32; 256]; 4], s: Halves, k: Halves) -> Halves
+fn last_round(t: &Tables, s: Halves, k: Halves) -> Halves
     ensures { λ r. ⌜ columnsOf r ≡ lastRoundBy (now (t .entry)) (columnsOf s) (columnsOf k) ⌝ }
 {
     let a = s.first;
@@ -82,33 +86,29 @@ fn last_round(t: &[[u32; 256]; 4], s: Halves, k: Halves) -> Halves
 }
 
 // The rounds that are left after the first `done`.
-pub(crate) fn rounds_after(
-    t: &[[u32; 256]; 4],
-    ks: &[[[u8; 4]; 4]; 15],
-    done: usize,
-    s: Halves,
-) -> Halves
+pub(crate) fn rounds_after(t: &Tables, ks: &RoundKeys, done: usize, s: Halves) -> Halves
     requires { ⌜ done ≤ 13 ⌝ }
     ensures { λ r. ⌜ columnsOf r ≡ laterRoundsBy (now (t .entry)) (now (ks .entry)) done (columnsOf s) ⌝ }
 {
     let mut x = s;
     let mut i = done;
-    while i < 13 {
+    while i < MIDDLE_ROUNDS {
         let u = round(t, x, halves_of(ks[i + 1]));
         x = u;
         i += 1;
     }
-    last_round(t, x, halves_of(ks[14]))
+    last_round(t, x, halves_of(ks[LAST_ROUND]))
 }
 
 // Rounds 3 to 14 of two states side by side: neither waits for the other.
-pub(crate) fn rounds_after_two(t: &[[u32; 256]; 4], ks: &[[[u8; 4]; 4]; 15], s: Both) -> Both
-    ensures { λ r. ⌜ (columnsOf (r .one) ≡ laterRoundsBy (now (t .entry)) (now (ks .entry)) 2 (columnsOf (s .one))) × (columnsOf (r .other) ≡ laterRoundsBy (now (t .entry)) (now (ks .entry)) 2 (columnsOf (s .other))) ⌝ }
+pub(crate) fn rounds_after_two(t: &Tables, ks: &RoundKeys, s: Both) -> Both
+    ensures { λ r. ⌜ columnsOf (r .one) ≡ laterRoundsBy (now (t .entry)) (now (ks .entry)) 2 (columnsOf (s .one)) ⌝ }
+    ensures { λ r. ⌜ columnsOf (r .other) ≡ laterRoundsBy (now (t .entry)) (now (ks .entry)) 2 (columnsOf (s .other)) ⌝ }
 {
     let mut x = s.one;
     let mut y = s.other;
     let mut i: usize = 2;
-    while i < 13 {
+    while i < MIDDLE_ROUNDS {
         let k = halves_of(ks[i + 1]);
         let u = round(t, x, k);
         let v = round(t, y, k);
@@ -116,7 +116,7 @@ pub(crate) fn rounds_after_two(t: &[[u32; 256]; 4], ks: &[[[u8; 4]; 4]; 15], s: 
         y = v;
         i += 1;
     }
-    let k = halves_of(ks[14]);
+    let k = halves_of(ks[LAST_ROUND]);
     Both {
         one: last_round(t, x, k),
         other: last_round(t, y, k),

@@ -1,15 +1,18 @@
 // Blocks that differ in their last byte alone share most of rounds 1 and 2.
+use crate::Tables;
 use crate::halves::Halves;
 use crate::halves::add_halves;
 use crate::halves::from_columns;
 use crate::halves::halves_from;
 use crate::halves::halves_of;
 use crate::rounds::round;
+use aes::RoundKeys;
+use octets::strings::Block;
 ghost use mathlib.Core.Path.{_≡_};
 ghost use Prim.Native.Nat.{_%_};
 ghost use lib.Bits.{bitXor};
 ghost use Rattle.aes.specs.Cipher.{addColumn};
-ghost use Rattle.aes_fast.specs.ByTables.{columnFrom, entryAt};
+ghost use Rattle.aes_fast.specs.ByTables.{columnFrom, tableEntry};
 ghost use Rattle.aes_fast.specs.Halves.{columnsOf};
 ghost use Rattle.aes_fast.specs.Start.{columnAdds, begunBy, startBy};
 
@@ -21,14 +24,14 @@ pub struct Start {
 }
 
 // What table 3 has for the byte a is added to the word u, a column.
-fn add_entry(t: &[[u32; 256]; 4], u: u32, a: u64) -> u32
-    ensures { λ r. ⌜ columnFrom r ≡ addColumn (columnFrom u) (entryAt (now (t .entry)) 3 (a % 256)) ⌝ }
+fn add_entry(t: &Tables, u: u32, a: u64) -> u32
+    ensures { λ r. ⌜ columnFrom r ≡ addColumn (columnFrom u) (tableEntry (now (t .entry)) 3 (a % 256)) ⌝ }
 {
     u ^ t[3][(a % 256) as usize]
 }
 
 // What the word u, round 1's column 0, adds to the state of round 2.
-fn column_adds(t: &[[u32; 256]; 4], u: u32) -> Halves
+fn column_adds(t: &Tables, u: u32) -> Halves
     ensures { λ r. ⌜ columnsOf r ≡ columnAdds (now (t .entry)) (columnFrom u) ⌝ }
 {
     from_columns(
@@ -39,7 +42,7 @@ fn column_adds(t: &[[u32; 256]; 4], u: u32) -> Halves
     )
 }
 
-pub fn start_of(t: &[[u32; 256]; 4], ks: &[[[u8; 4]; 4]; 15], b: [u8; 16]) -> Start
+pub fn start_of(t: &Tables, ks: &RoundKeys, b: Block) -> Start
     ensures { λ r. ⌜ r ≡ startBy (now (t .entry)) (now (ks .entry)) b ⌝ }
 {
     let s = add_halves(halves_from(b), halves_of(ks[0]));
@@ -61,7 +64,7 @@ fn add_byte(low: u8, key: u8) -> u8
 }
 
 // The state after rounds 1 and 2 of the block that ends with the byte `low`.
-pub(crate) fn begun(t: &[[u32; 256]; 4], s: Start, low: u8) -> Halves
+pub(crate) fn begun(t: &Tables, s: Start, low: u8) -> Halves
     ensures { λ r. ⌜ columnsOf r ≡ begunBy (now (t .entry)) s low ⌝ }
 {
     let last = add_byte(low, s.key);

@@ -5,7 +5,7 @@ use mathlib.Core.Bool.{Bool, true, false}
 use Prim.Native.Nat.{ℕ, zero, suc, _-_, _^_, _≤_, _<_}
 use native.Mathlib.Nat.{one-mul, two-pow-succ}
 use native.Mathlib.Omega.{arith}
-use lib.Dec.{lit<, lit≤, ltb, ltb→lt}
+use lib.Dec.{lit<, lit≤, ltb}
 use lib.Bits.{bitXor, xor-self, xor-shifted}
 use borrow.Author.Tests.{ltb-true, ltb-false}
 use Rattle.aes_field.proofs.Computed.{below-at}
@@ -17,7 +17,7 @@ adds-zero : (f : ℕ → ℕ) → Adds f → f 0 ≡ 0
 adds-zero f adds = adds 0 0 (lit< tt) (lit< tt) ∙ xor-self (f 0)
 
 power-byte : (n : ℕ) → n < 8 → 2 ^ n < 256
-power-byte n h = ltb→lt (2 ^ n) 256 (below-at (λ k. ltb (2 ^ k) 256) 8 tt n h)
+power-byte n h = ltb-true (2 ^ n) 256 (below-at (λ k. ltb (2 ^ k) 256) 8 tt n h)
 
 -- the top bit and the rest
 rest-less : (n x : ℕ) → x < 2 ^ suc n → 2 ^ n ≤ x → x - 2 ^ n < 2 ^ n

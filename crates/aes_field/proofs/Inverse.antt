@@ -2,16 +2,18 @@
 -- table of the inverses, so that each is worked out once.
 -- Assumes nothing.
 use mathlib.Core.Path.{_≡_, sym, ap, _∙_}
-use mathlib.Core.Bool.{Bool, _&&_}
+use mathlib.Core.Bool.{Bool, true, _&&_}
 use mathlib.Core.List.{List}
 use Prim.Native.Nat.{ℕ, _<_}
 use native.Mathlib.Omega.{arith}
-use lib.Dec.{T, eqb, eqb→eq}
+use borrow.Author.Tests.{eqb-true}
+use lib.Dec.{T, eqb}
 use lib.ListN.{getD}
 use Rattle.octets.specs.Lent.{when}
+use Rattle.octets.proofs.Tests.{and-left, and-right}
 use Rattle.aes_field.specs.Field.{xtime, times, inverse, affine, unaffine, sbox, invSbox}
 use Rattle.aes_field.specs.Tables.{tableOf}
-use Rattle.aes_field.proofs.Computed.{and-left, and-right, below, below-at, agree-at}
+use Rattle.aes_field.proofs.Computed.{below, below-at, agree-at}
 use Rattle.aes_field.proofs.Tables.{tableOf-at}
 use Rattle.aes_field.proofs.Linear.{times-byte}
 
@@ -37,17 +39,18 @@ module _ (a : ℕ) (h : a < 256) where
   entry : getD (tableOf inverse) a 0 ≡ inverse a
   entry = tableOf-at inverse a h
 
-  test : T (back (tableOf inverse) a && one (tableOf inverse) a)
+  test : (back (tableOf inverse) a && one (tableOf inverse) a) ≡ true
   test = below-at (λ k. back (tableOf inverse) k && one (tableOf inverse) k) 256 tested a h
 
 module _ (a : ℕ) (h : a < 256) where
   -- 4.4: a byte other than {00} times its inverse is {01}
   pub inverse-is : times a (inverse a) ≡ when (eqb a 0) 0 1
-  inverse-is = ap (times a) (sym (entry a h)) ∙ eqb→eq _ _ (and-right (back (tableOf inverse) a) (one (tableOf inverse) a) (test a h))
+  inverse-is = ap (times a) (sym (entry a h)) ∙ eqb-true _ _ (and-right (back (tableOf inverse) a) (one (tableOf inverse) a) (test a h))
 
   inverse-inverse : inverse (inverse a) ≡ a
   inverse-inverse =
-      sym (entry (inverse a) (inverse-byte a h)) ∙ ap (λ (x : ℕ). getD (tableOf inverse) x 0) (sym (entry a h)) ∙ eqb→eq _ _ (and-left (back (tableOf inverse) a) (one (tableOf inverse) a) (test a h))
+      sym (entry (inverse a) (inverse-byte a h)) ∙ ap (λ (x : ℕ). getD (tableOf inverse) x 0) (sym (entry a h))
+      ∙ eqb-true _ _ (and-left (back (tableOf inverse) a) (one (tableOf inverse) a) (test a h))
 
   affine-byte : affine a < 256
   unfolding affine

@@ -14,25 +14,25 @@ abbrev pub InverseOfZero : Type 0
 InverseOfZero = inverse 0 ≡ 0
 
 -- g undoes f on bytes, and f makes a byte of a byte
-abbrev pub Undoes : (ℕ → ℕ) → (ℕ → ℕ) → Type 0
-Undoes g f = (a : ℕ) → a < 256 → g (f a) ≡ a
+abbrev pub UndoesOnBytes : (ℕ → ℕ) → (ℕ → ℕ) → Type 0
+UndoesOnBytes g f = (a : ℕ) → a < 256 → g (f a) ≡ a
 
 abbrev pub MakesBytes : (ℕ → ℕ) → Type 0
 MakesBytes f = (a : ℕ) → a < 256 → f a < 256
 
 -- 5.1.1 and 5.3.2: the affine map and its inverse
 abbrev pub UnaffineUndoes : Type 0
-UnaffineUndoes = Undoes unaffine affine
+UnaffineUndoes = UndoesOnBytes unaffine affine
 
 abbrev pub AffineUndoes : Type 0
-AffineUndoes = Undoes affine unaffine
+AffineUndoes = UndoesOnBytes affine unaffine
 
 -- the S-box and its inverse
 abbrev pub InvSboxUndoes : Type 0
-InvSboxUndoes = Undoes invSbox sbox
+InvSboxUndoes = UndoesOnBytes invSbox sbox
 
 abbrev pub SboxUndoes : Type 0
-SboxUndoes = Undoes sbox invSbox
+SboxUndoes = UndoesOnBytes sbox invSbox
 
 abbrev pub SboxBytes : Type 0
 SboxBytes = MakesBytes sbox

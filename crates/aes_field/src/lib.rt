@@ -8,6 +8,9 @@ ghost use mathlib.Core.Path.{_≡_};
 ghost use Rattle.aes_field.specs.Field.{xtime};
 ghost use Rattle.aes_field.specs.Tables.{sboxTable, invSboxTable};
 
+// For each byte, a byte.
+pub type ByteTable = [u8; 256];
+
 // Times x in the field.
 pub fn double(a: u8) -> u8
     ensures { λ r. ⌜ r ≡ xtime a ⌝ }
@@ -15,13 +18,13 @@ pub fn double(a: u8) -> u8
     ((a as u16 * 2 % 256) as u8) ^ (a / 128 * 27)
 }
 
-pub fn sbox_table() -> [u8; 256]
+pub fn sbox_table() -> ByteTable
     ensures { λ r. ⌜ r ≡ sboxTable ⌝ }
 {
     SBOX
 }
 
-pub fn inv_sbox_table() -> [u8; 256]
+pub fn inv_sbox_table() -> ByteTable
     ensures { λ r. ⌜ r ≡ invSboxTable ⌝ }
 {
     INV_SBOX

@@ -1,14 +1,10 @@
--- Lists of four, and states given by the byte in each row and column: equal where these are.
+-- States given by the byte in each row and column: equal where these are.
 -- Assumes nothing.
 use mathlib.Core.Path.{_≡_}
-use mathlib.Core.List.{[], _∷_}
 use Prim.Native.Nat.{ℕ}
 use Rattle.octets.proofs.Values.{values-same}
 use Rattle.aes_field.specs.Words.{Column, columnOf}
 use Rattle.aes_state.specs.State.{State, stateOf}
-
-pub four : {A : Type 0} {a b c d a′ b′ c′ d′ : A} → a ≡ a′ → b ≡ b′ → c ≡ c′ → d ≡ d′ → a ∷ b ∷ c ∷ d ∷ [] ≡ a′ ∷ b′ ∷ c′ ∷ d′ ∷ []
-four p q r s = cc
 
 -- the state whose byte in row r of column c is g c r
 abbrev pub grid : (ℕ → ℕ → ℕ) → State

@@ -24,8 +24,8 @@ pub record IsKey (k : State) : Type 0 where
 abbrev pub Keeps : (State → State) → Type 0
 Keeps f = (s : State) → IsState s → IsState (f s)
 
-abbrev pub Undoes : (State → State) → (State → State) → Type 0
-Undoes g f = (s : State) → IsState s → g (f s) ≡ s
+abbrev pub UndoesOnStates : (State → State) → (State → State) → Type 0
+UndoesOnStates g f = (s : State) → IsState s → g (f s) ≡ s
 
 -- 3.4: a block of 16 bytes and its state
 abbrev pub LoadMakes : Type 0
@@ -48,10 +48,10 @@ abbrev pub InvShiftRowsKeeps : Type 0
 InvShiftRowsKeeps = Keeps invShiftRows
 
 abbrev pub InvShiftRowsUndoes : Type 0
-InvShiftRowsUndoes = Undoes invShiftRows shiftRows
+InvShiftRowsUndoes = UndoesOnStates invShiftRows shiftRows
 
 abbrev pub ShiftRowsUndoes : Type 0
-ShiftRowsUndoes = Undoes shiftRows invShiftRows
+ShiftRowsUndoes = UndoesOnStates shiftRows invShiftRows
 
 -- 5.1.3 and 5.3.3
 abbrev pub MixColumnsKeeps : Type 0
@@ -61,14 +61,14 @@ abbrev pub InvMixColumnsKeeps : Type 0
 InvMixColumnsKeeps = Keeps invMixColumns
 
 abbrev pub InvMixColumnsUndoes : Type 0
-InvMixColumnsUndoes = Undoes invMixColumns mixColumns
+InvMixColumnsUndoes = UndoesOnStates invMixColumns mixColumns
 
 abbrev pub MixColumnsUndoes : Type 0
-MixColumnsUndoes = Undoes mixColumns invMixColumns
+MixColumnsUndoes = UndoesOnStates mixColumns invMixColumns
 
 -- 5.1.4, and 5.3.4: its own inverse
 abbrev pub AddRoundKeyKeeps : Type 0
 AddRoundKeyKeeps = (s k : State) → IsState s → IsKey k → IsState (addRoundKey s k)
 
 abbrev pub AddRoundKeyUndoes : Type 0
-AddRoundKeyUndoes = (k : State) → Undoes (λ s. addRoundKey s k) (λ s. addRoundKey s k)
+AddRoundKeyUndoes = (k : State) → UndoesOnStates (λ s. addRoundKey s k) (λ s. addRoundKey s k)

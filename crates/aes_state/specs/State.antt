@@ -18,8 +18,8 @@ stateOf f = f 0 ∷ f 1 ∷ f 2 ∷ f 3 ∷ []
 abbrev pub stateFrom : List ℕ → State
 stateFrom b = stateOf (λ c. columnOf (λ r. getD b (r + 4 * c) 0))
 
-abbrev pub bytes : Column → List ℕ
-bytes a = columnOf (λ r. getD a r 0)
+abbrev pub columnBytes : Column → List ℕ
+columnBytes a = columnOf (λ r. getD a r 0)
 
 abbrev pub bytesOf : State → List ℕ
-bytesOf s = bytes (column s 0) ++ bytes (column s 1) ++ bytes (column s 2) ++ bytes (column s 3)
+bytesOf s = columnBytes (column s 0) ++ columnBytes (column s 1) ++ columnBytes (column s 2) ++ columnBytes (column s 3)

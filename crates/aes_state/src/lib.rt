@@ -1,5 +1,6 @@
 // The state of FIPS 197, four columns of four bytes by value, and the steps on it that need no S-box.
 use aes_field::double;
+use octets::strings::Block;
 ghost use mathlib.Core.Path.{_≡_};
 ghost use mathlib.Core.List.{[], _∷_};
 ghost use Prim.Native.Nat.{_+_, _≤_};
@@ -9,16 +10,20 @@ ghost use Rattle.aes_state.specs.State.{stateFrom, bytesOf};
 ghost use Rattle.aes_state.specs.Steps.{shiftRows, mixColumn, mixColumns, addColumn, addRoundKey};
 ghost use Rattle.aes_state.specs.InvSteps.{invShiftRows, invMixColumn, invMixColumns};
 
+pub type Column = [u8; 4];
+
+pub type State = [Column; 4];
+
 // 3.4: a block read into the state, and out of it again.
 
-fn column_at(b: [u8; 16], at: usize) -> [u8; 4]
+fn column_at(b: Block, at: usize) -> Column
     requires { ⌜ at ≤ 12 ⌝ }
     ensures { λ r. ⌜ r ≡ getD b at 0 ∷ getD b (at + 1) 0 ∷ getD b (at + 2) 0 ∷ getD b (at + 3) 0 ∷ [] ⌝ }
 {
     [b[at], b[at + 1], b[at + 2], b[at + 3]]
 }
 
-pub fn load(b: [u8; 16]) -> [[u8; 4]; 4]
+pub fn load(b: Block) -> State
     ensures { λ r. ⌜ r ≡ stateFrom b ⌝ }
 {
     [
@@ -29,7 +34,7 @@ pub fn load(b: [u8; 16]) -> [[u8; 4]; 4]
     ]
 }
 
-pub fn store(s: [[u8; 4]; 4]) -> [u8; 16]
+pub fn store(s: State) -> Block
     ensures { λ r. ⌜ r ≡ bytesOf s ⌝ }
 {
     let p = s[0];
@@ -57,13 +62,13 @@ pub fn store(s: [[u8; 4]; 4]) -> [u8; 16]
 }
 
 // 5.1.2, 5.3.1: row 0 of a, row 1 of b, row 2 of c and row 3 of d.
-fn rows_of(a: [u8; 4], b: [u8; 4], c: [u8; 4], d: [u8; 4]) -> [u8; 4]
+fn rows_of(a: Column, b: Column, c: Column, d: Column) -> Column
     ensures { λ r. ⌜ r ≡ getD a 0 0 ∷ getD b 1 0 ∷ getD c 2 0 ∷ getD d 3 0 ∷ [] ⌝ }
 {
     [a[0], b[1], c[2], d[3]]
 }
 
-pub fn shift_rows(s: [[u8; 4]; 4]) -> [[u8; 4]; 4]
+pub fn shift_rows(s: State) -> State
     ensures { λ r. ⌜ r ≡ shiftRows s ⌝ }
 {
     let p = s[0];
@@ -78,7 +83,7 @@ pub fn shift_rows(s: [[u8; 4]; 4]) -> [[u8; 4]; 4]
     ]
 }
 
-pub fn inv_shift_rows(s: [[u8; 4]; 4]) -> [[u8; 4]; 4]
+pub fn inv_shift_rows(s: State) -> State
     ensures { λ r. ⌜ r ≡ invShiftRows s ⌝ }
 {
     let p = s[0];
@@ -95,7 +100,7 @@ pub fn inv_shift_rows(s: [[u8; 4]; 4]) -> [[u8; 4]; 4]
 
 // 5.1.3
 
-fn mix_column(a: [u8; 4]) -> [u8; 4]
+fn mix_column(a: Column) -> Column
     ensures { λ r. ⌜ r ≡ mixColumn a ⌝ }
 {
     let p = a[0];
@@ -114,7 +119,7 @@ fn mix_column(a: [u8; 4]) -> [u8; 4]
     ]
 }
 
-pub fn mix_columns(s: [[u8; 4]; 4]) -> [[u8; 4]; 4]
+pub fn mix_columns(s: State) -> State
     ensures { λ r. ⌜ r ≡ mixColumns s ⌝ }
 {
     [
@@ -149,7 +154,7 @@ fn multiples_of(a: u8) -> Multiples
     }
 }
 
-fn inv_mix_column(a: [u8; 4]) -> [u8; 4]
+fn inv_mix_column(a: Column) -> Column
     ensures { λ r. ⌜ r ≡ invMixColumn a ⌝ }
 {
     let p = multiples_of(a[0]);
@@ -164,7 +169,7 @@ fn inv_mix_column(a: [u8; 4]) -> [u8; 4]
     ]
 }
 
-pub fn inv_mix_columns(s: [[u8; 4]; 4]) -> [[u8; 4]; 4]
+pub fn inv_mix_columns(s: State) -> State
     ensures { λ r. ⌜ r ≡ invMixColumns s ⌝ }
 {
     [
@@ -177,13 +182,13 @@ pub fn inv_mix_columns(s: [[u8; 4]; 4]) -> [[u8; 4]; 4]
 
 // 5.1.4, and its own inverse (5.3.4).
 
-pub fn add_column(a: [u8; 4], k: [u8; 4]) -> [u8; 4]
+pub fn add_column(a: Column, k: Column) -> Column
     ensures { λ r. ⌜ r ≡ addColumn a k ⌝ }
 {
     [a[0] ^ k[0], a[1] ^ k[1], a[2] ^ k[2], a[3] ^ k[3]]
 }
 
-pub fn add_round_key(s: [[u8; 4]; 4], k: [[u8; 4]; 4]) -> [[u8; 4]; 4]
+pub fn add_round_key(s: State, k: State) -> State
     ensures { λ r. ⌜ r ≡ addRoundKey s k ⌝ }
 {
     [

@@ -2,7 +2,7 @@
 -- Assumes nothing.
 use Rattle.octets.proofs.Unique.{unique}
 use Rattle.cbc_mac.specs.Laws.{AbsorbReady, CloseReady, ChainReady, AbsorbUnique, CloseUnique, ChainUnique}
-use Rattle.cbc_mac.proofs.Ready.{absorb-same, close-same, chain-same}
+use Rattle.cbc_mac.proofs.Ready.{absorb-same, close-same, chain-as-cipher}
 
 pub absorb-ready : AbsorbReady
 absorb-ready t ks k y s ready = absorb-same t ks ready k y s
@@ -11,7 +11,7 @@ pub close-ready : CloseReady
 close-ready t ks k y ready = close-same t ks ready k y
 
 pub chain-ready : ChainReady
-chain-ready t ks y s ready = chain-same t ks ready y s
+chain-ready t ks y s ready = chain-as-cipher t ks ready y s
 
 pub absorb-unique : AbsorbUnique
 absorb-unique t ks k y part = unique _

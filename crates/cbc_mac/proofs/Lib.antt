@@ -1,3 +1,2 @@
-mod Chained
 mod Ready
 pub mod Laws

@@ -59,8 +59,8 @@ module _ (t : Tables) (ks : List State) (ready : Ready t ks) where
       go true = refl
       go false = same y hy
 
-  pub chain-same : (y s : List ℕ) → IsBlock y → Bytes s → chain f y (cut s) ≡ chain (cipher ks) y (cut s)
-  chain-same y s hy hs =
+  pub chain-as-cipher : (y s : List ℕ) → IsBlock y → Bytes s → chain f y (cut s) ≡ chain (cipher ks) y (cut s)
+  chain-as-cipher y s hy hs =
       sym (close-chain f y s (hy .size) (cipherBy-length t ks))
       ∙ close-same (length s % 16) (absorb f 0 y s) after
       ∙ ap (close (cipher ks) (length s % 16)) (absorb-same 0 y s hy hs)
@@ -84,7 +84,7 @@ module _ (t : Tables) (ks : List State) (y : List ℕ) (hy : IsBlock y) {r : Lis
 
   pub chain-ciphered : (s : List ℕ) → Bytes s → r ≡ close (cipherBy t ks) (length s % 16) (absorb (cipherBy t ks) 0 y s)
       → Ciphered t ks (λ f. chain f y (cut s)) r
-  chain-ciphered s hs e = record { by-tables = e ∙ along; by-cipher = λ ready. e ∙ along ∙ chain-same t ks ready y s hy hs }
+  chain-ciphered s hs e = record { by-tables = e ∙ along; by-cipher = λ ready. e ∙ along ∙ chain-as-cipher t ks ready y s hy hs }
     where
       along : close (cipherBy t ks) (length s % 16) (absorb (cipherBy t ks) 0 y s) ≡ chain (cipherBy t ks) y (cut s)
       along = close-chain (cipherBy t ks) y s (hy .size) (cipherBy-length t ks)

@@ -1,7 +1,10 @@
 // CBC-MAC as a running chain: a state, and how many bytes of its block it has taken. By tables and round keys that a caller lends down.
+use aes::RoundKeys;
+use aes_fast::Tables;
 use aes_fast::encrypt;
 use aes_fast::halves::block;
 use aes_fast::halves::halves_at;
+use octets::strings::Block;
 use octets::strings::xor_blocks;
 ghost use mathlib.Core.Path.{_≡_};
 ghost use Prim.Native.Nat.{_%_, _<_};
@@ -10,7 +13,7 @@ ghost use Rattle.octets.specs.Running.{afterByte, addAt, absorb, close};
 ghost use Rattle.aes_fast.specs.ByTables.{cipherBy};
 ghost use Rattle.aes_fast.specs.Laws.{Ciphered};
 
-fn add_byte(t: &[[u32; 256]; 4], ks: &[[[u8; 4]; 4]; 15], k: usize, y: [u8; 16], b: u8) -> [u8; 16]
+fn add_byte(t: &Tables, ks: &RoundKeys, k: usize, y: Block, b: u8) -> Block
     requires { ⌜ k < 16 ⌝ }
     ensures { λ r. ⌜ r ≡ afterByte (cipherBy (now (t .entry)) (now (ks .entry))) k (addAt k y b) ⌝ }
 {
@@ -23,13 +26,7 @@ fn add_byte(t: &[[u32; 256]; 4], ks: &[[[u8; 4]; 4]; 15], k: usize, y: [u8; 16],
 }
 
 // A part, byte by byte.
-fn absorb_bytes(
-    t: &[[u32; 256]; 4],
-    ks: &[[[u8; 4]; 4]; 15],
-    k: usize,
-    y: [u8; 16],
-    part: &[u8],
-) -> [u8; 16]
+fn absorb_bytes(t: &Tables, ks: &RoundKeys, k: usize, y: Block, part: &[u8]) -> Block
     requires { ⌜ k < 16 ⌝ }
     ensures { λ r. ⌜ r ≡ absorb (cipherBy (now (t .entry)) (now (ks .entry))) k y (now (part .entry)) ⌝ }
 {
@@ -46,7 +43,7 @@ fn absorb_bytes(
 }
 
 // A part from the start of a block: whole blocks as blocks, and the rest byte by byte.
-fn absorb_blocks(t: &[[u32; 256]; 4], ks: &[[[u8; 4]; 4]; 15], y: [u8; 16], part: &[u8]) -> [u8; 16]
+fn absorb_blocks(t: &Tables, ks: &RoundKeys, y: Block, part: &[u8]) -> Block
     ensures { λ r. ⌜ r ≡ absorb (cipherBy (now (t .entry)) (now (ks .entry))) 0 y (now (part .entry)) ⌝ }
 {
     let n = part.len();
@@ -62,13 +59,7 @@ fn absorb_blocks(t: &[[u32; 256]; 4], ks: &[[[u8; 4]; 4]; 15], y: [u8; 16], part
 }
 
 // A part of any length, from place k of a block: bytes up to the block's end, and the rest from the start of the next.
-pub fn absorb(
-    t: &[[u32; 256]; 4],
-    ks: &[[[u8; 4]; 4]; 15],
-    k: usize,
-    y: [u8; 16],
-    part: &[u8],
-) -> [u8; 16]
+pub fn absorb(t: &Tables, ks: &RoundKeys, k: usize, y: Block, part: &[u8]) -> Block
     ensures { λ r. ⌜ Ciphered (now (t .entry)) (now (ks .entry)) (λ f. absorb f (k % 16) y (now (part .entry))) r ⌝ }
 {
     let place = k % 16;
@@ -81,7 +72,7 @@ pub fn absorb(
 }
 
 // A block that has begun is filled with zeros.
-pub fn close(t: &[[u32; 256]; 4], ks: &[[[u8; 4]; 4]; 15], k: usize, y: [u8; 16]) -> [u8; 16]
+pub fn close(t: &Tables, ks: &RoundKeys, k: usize, y: Block) -> Block
     ensures { λ r. ⌜ Ciphered (now (t .entry)) (now (ks .entry)) (λ f. close f (k % 16) y) r ⌝ }
 {
     if k % 16 == 0 {
@@ -91,7 +82,7 @@ pub fn close(t: &[[u32; 256]; 4], ks: &[[[u8; 4]; 4]; 15], k: usize, y: [u8; 16]
 }
 
 // The chain along a string's blocks.
-pub fn chain_along(t: &[[u32; 256]; 4], ks: &[[[u8; 4]; 4]; 15], y: [u8; 16], s: &[u8]) -> [u8; 16]
+pub fn chain_along(t: &Tables, ks: &RoundKeys, y: Block, s: &[u8]) -> Block
     ensures { λ r. ⌜ Ciphered (now (t .entry)) (now (ks .entry)) (λ f. chain f y (cut (now (s .entry)))) r ⌝ }
 {
     close(t, ks, s.len(), absorb_blocks(t, ks, y, s))

@@ -16,7 +16,7 @@ use Rattle.ghash.specs.declared.words.Wide.{Wide}
 use Rattle.ghash.specs.Field.{timesH}
 use Rattle.ghash.specs.Product.{product}
 use Rattle.ghash.specs.Product.Inside.{product-is}
-use Rattle.ghash.specs.Ghash.{ghash, zeros}
+use Rattle.ghash.specs.Ghash.{ghash, zeroBlock}
 use Rattle.ghash.specs.Ghash.Inside.{ghash-is}
 use Rattle.ghash.specs.Words.{blockOf}
 use Rattle.ghash.proofs.Wide.{length-blockOf}
@@ -57,15 +57,15 @@ absorb-over h y part whole r text k n m lt en em fits ep ew er =
 
 -- the data in two parts, the text and the last block
 pub hashed-parts : (h : List ℕ) (n : ℕ) → n ≡ number h → (a b text last s₁ s₂ s₃ s₄ s₅ s₆ r : List ℕ)
-    → s₁ ≡ absorb (timesH n) 0 zeros a → s₂ ≡ absorb (timesH n) (length a % 16) s₁ b
+    → s₁ ≡ absorb (timesH n) 0 zeroBlock a → s₂ ≡ absorb (timesH n) (length a % 16) s₁ b
     → s₃ ≡ close (timesH n) ((length a % 16 + length b % 16) % 16) s₂
     → s₄ ≡ absorb (timesH n) 0 s₃ text → s₅ ≡ close (timesH n) (length text % 16) s₄
     → s₆ ≡ xors s₅ last → r ≡ timesH n s₆ → r ≡ ghash h (cut (a ++ b) ++ (cut text ++ (last ∷ [])))
 hashed-parts h n key a b text last s₁ s₂ s₃ s₄ s₅ s₆ r e₁ e₂ e₃ e₄ e₅ e₆ er =
     er ∙ ap f (e₆ ∙ ap (λ (s : List ℕ). xors s last) texts)
-    ∙ sym (chain-append f zeros (cut (a ++ b)) (cut text ++ (last ∷ [])) ∙ chain-append f _ (cut text) (last ∷ []))
-    ∙ chain-same f (λ x. product x h) (λ x. ap (λ (k : ℕ). timesH k x) key ∙ sym (product-is x h)) zeros (cut (a ++ b) ++ (cut text ++ (last ∷ [])))
-    ∙ sym (ghash-is h zeros (cut (a ++ b) ++ (cut text ++ (last ∷ []))))
+    ∙ sym (chain-append f zeroBlock (cut (a ++ b)) (cut text ++ (last ∷ [])) ∙ chain-append f _ (cut text) (last ∷ []))
+    ∙ chain-same f (λ x. product x h) (λ x. ap (λ (k : ℕ). timesH k x) key ∙ sym (product-is x h)) zeroBlock (cut (a ++ b) ++ (cut text ++ (last ∷ [])))
+    ∙ sym (ghash-is h zeroBlock (cut (a ++ b) ++ (cut text ++ (last ∷ []))))
   where
     f : List ℕ → List ℕ
     f = timesH n
@@ -73,14 +73,14 @@ hashed-parts h n key a b text last s₁ s₂ s₃ s₄ s₅ s₆ r e₁ e₂ e�
     places : (length a % 16 + length b % 16) % 16 ≡ (length a % 16 + length b) % 16
     places = omega arith
 
-    datas : s₃ ≡ chain (timesH n) zeros (cut (a ++ b))
+    datas : s₃ ≡ chain (timesH n) zeroBlock (cut (a ++ b))
     datas =
         e₃
         ∙ ap₂ (close f) places (e₂ ∙ ap (λ (s : List ℕ). absorb f (length a % 16) s b) e₁)
-        ∙ close-parts f zeros a b refl (length-timesH n)
+        ∙ close-parts f zeroBlock a b refl (length-timesH n)
 
-    texts : s₅ ≡ chain (timesH n) (chain (timesH n) zeros (cut (a ++ b))) (cut text)
+    texts : s₅ ≡ chain (timesH n) (chain (timesH n) zeroBlock (cut (a ++ b))) (cut text)
     texts =
         e₅ ∙ ap (close f (length text % 16)) e₄
-        ∙ close-chain f s₃ text (ap length datas ∙ length-chain f (length-timesH n) zeros (cut (a ++ b)) refl) (length-timesH n)
+        ∙ close-chain f s₃ text (ap length datas ∙ length-chain f (length-timesH n) zeroBlock (cut (a ++ b)) refl) (length-timesH n)
         ∙ ap (λ (s : List ℕ). chain f s (cut text)) datas

@@ -8,7 +8,7 @@ use Rattle.octets.specs.Xor.{xors}
 use Rattle.ghash.specs.Field.{timesX, timesH}
 use Rattle.ghash.specs.Product.{product}
 use Rattle.ghash.specs.Product.Inside.{product-is}
-use Rattle.ghash.specs.Ghash.{ghash, ghashFrom, zeros}
+use Rattle.ghash.specs.Ghash.{ghash, ghashFrom, zeroBlock}
 use Rattle.ghash.proofs.Laws.{ghash-nil, ghash-step}
 
 abbrev key : List ℕ
@@ -37,7 +37,7 @@ second-product = product-is (xors first lengths) key ∙ refl
 
 pub case-2 : ghash key (text ∷ lengths ∷ []) ≡ second
 case-2 =
-    ghash-step key zeros text (lengths ∷ [])
+    ghash-step key zeroBlock text (lengths ∷ [])
     ∙ ap (λ (y : List ℕ). ghashFrom key y (lengths ∷ [])) first-product
     ∙ ghash-step key first lengths []
     ∙ ghash-nil key (product (xors first lengths) key)

@@ -11,9 +11,8 @@ use lib.Dec.{lit<}
 use lib.ListN.{length, getD, take, drop, length-append}
 use lib.Seq.{take-add, drop-drop}
 use Rattle.octets.specs.BigEndian.{be, number}
-use Rattle.octets.specs.Values.{bytesAt}
 use Rattle.octets.specs.Xor.{xors}
-use Rattle.octets.proofs.Values.{values-list, bytesAt-part}
+use Rattle.octets.proofs.Values.{bytesAt-part}
 use Rattle.octets.proofs.Bytes.{bytes-nil, bytes-cons}
 use Rattle.octets.proofs.BigEndian.{length-be, number-be, be-number, number-append, be-append, be-xor}
 use Rattle.octets.proofs.Xor.{xors-append}
@@ -85,6 +84,3 @@ word-at s i fits = rw (add-one i, add-two i, add-three i, add-four i, add-five i
 
 pub block-at : (s : List ℕ) (i : ℕ) → take 8 (drop i s) ++ take 8 (drop (i + 8) s) ≡ take 16 (drop i s)
 block-at s i = ap (λ (l : List ℕ). take 8 (drop i s) ++ take 8 l) (sym (drop-drop 8 i s)) ∙ sym (take-add 8 8 (drop i s))
-
-pub bytes-in-words : (a b : List ℕ) → length a ≡ 8 → length b ≡ 8 → bytesAt 8 a 0 ++ bytesAt 8 b 0 ≡ a ++ b
-bytes-in-words a b ha hb = ap₂ (λ (s t : List ℕ). s ++ t) (values-list a 0 8 ha) (values-list b 0 8 hb)

@@ -6,10 +6,9 @@ use mathlib.Core.List.{List, [], _∷_, _++_}
 use lib.ListN.{length}
 use Rattle.octets.specs.Bytes.{Bytes}
 use Rattle.octets.specs.Xor.{xors}
-use Rattle.octets.specs.Blocks.{cut}
 use Rattle.octets.specs.Unique.{Unique}
 use Rattle.ghash.specs.Product.{product}
-use Rattle.ghash.specs.Ghash.{ghash, ghashFrom}
+use Rattle.ghash.specs.Ghash.{ghashFrom, ghashParts}
 
 -- ---- the product of any two strings is a block
 
@@ -41,4 +40,4 @@ GhashAppend = (h y : List ℕ) (bs cs : List (List ℕ)) → ghashFrom h y (bs +
 -- ---- one answer meets the statement of `ghash_parts`
 
 abbrev pub PartsUnique : Type 0
-PartsUnique = (h a b text last : List ℕ) → Unique (ghash h (cut (a ++ b) ++ (cut text ++ (last ∷ []))))
+PartsUnique = (h a b text last : List ℕ) → Unique (ghashParts h (a ++ b) text last)

@@ -19,16 +19,16 @@ unfoldable pub adds : (b v n : ℕ) → ℕ
 adds b v n = multiply (lowBits b n) 0 v
 
 -- a word is four bits and then windows: of six bits in a fine table, and else of four
-abbrev pub width : Bool → ℕ
-width true = 6
-width false = 4
+abbrev pub windowWidth : Bool → ℕ
+windowWidth true = 6
+windowWidth false = 4
 
 abbrev pub windows : Bool → ℕ
 windows true = 10
 windows false = 15
 
 abbrev pub entries : Bool → ℕ
-entries fine = 16 + windows fine * 2 ^ width fine
+entries fine = 16 + windows fine * 2 ^ windowWidth fine
 
 -- the entry n of the first four bits is at n, and that of window k, of b bits, at 16 + k * 2^b + n
 unfoldable pub entryAt : (b h i : ℕ) → ℕ
@@ -52,7 +52,7 @@ pub record Filled (f : ℕ → ℕ) (t : List ℕ) (n : ℕ) : Type 0 where
 
 -- the table of a word, with V at its first bit
 abbrev pub WordTable : (fine : Bool) (v : ℕ) (t : List ℕ) → Type 0
-WordTable fine v t = Filled (entryAt (width fine) v) t (entries fine)
+WordTable fine v t = Filled (entryAt (windowWidth fine) v) t (entries fine)
 
 -- and those of the two words of a block
 abbrev pub TablesOf : (fine : Bool) (h : ℕ) (front back : List ℕ) → Type 0

@@ -2,6 +2,7 @@
 use crate::words::Wide;
 use crate::words::block_of;
 use crate::words::wide_of;
+use octets::strings::Block;
 ghost use mathlib.Core.Path.{_≡_};
 ghost use Prim.Native.Nat.{_+_, _≤_};
 ghost use lib.ListN.{length};
@@ -9,7 +10,7 @@ ghost use Rattle.octets.specs.Running.{addFrom};
 ghost use Rattle.ghash.specs.Words.{blockOf};
 
 // The part added to a block from place k on.
-fn add_bytes(y: [u8; 16], k: usize, part: &[u8]) -> [u8; 16]
+fn add_bytes(y: Block, k: usize, part: &[u8]) -> Block
     requires { ⌜ k + length (now part) ≤ 16 ⌝ }
     ensures { λ r. ⌜ r ≡ addFrom k y (now (part .entry)) ⌝ }
 {

@@ -7,16 +7,21 @@ use crate::words::Wide;
 use crate::words::add_wide;
 use crate::words::block_of;
 use crate::words::wide_of;
+use octets::strings::Block;
 ghost use mathlib.Core.Path.{_≡_};
-ghost use mathlib.Core.List.{List, [], _∷_, _++_};
+ghost use mathlib.Core.List.{List, _++_};
 ghost use Prim.Native.Nat.{ℕ};
 ghost use Rattle.octets.specs.BigEndian.{number};
-ghost use Rattle.octets.specs.Blocks.{cut};
-ghost use Rattle.ghash.specs.Ghash.{ghash};
+ghost use Rattle.ghash.specs.Ghash.{ghashParts};
 ghost use Rattle.ghash.specs.Table.{TablesOf, Room};
 
 // The length of text from which on fine tables are worth their making.
 const LONG: usize = 4096;
+
+// Two words for each entry: 16 and then 15 windows of 16, or 16 and then 10 windows of 64.
+type Table = [u64; 512];
+
+type FineTable = [u64; 1312];
 
 // The hash with the key of the tables.
 fn hash_by(
@@ -26,10 +31,10 @@ fn hash_by(
     a: &[u8],
     b: &[u8],
     text: &[u8],
-    last: [u8; 16],
-) -> [u8; 16]
+    last: Block,
+) -> Block
     requires { ⌜ Room fine (now front) × Room fine (now back) ⌝ }
-    ensures { λ r. ⌜ ((h : List ℕ) → TablesOf fine (number h) (now (front .entry)) (now (back .entry)) → r ≡ ghash h (cut (now (a .entry) ++ now (b .entry)) ++ (cut (now (text .entry)) ++ (last ∷ [])))) ⌝ }
+    ensures { λ r. ⌜ ((h : List ℕ) → TablesOf fine (number h) (now (front .entry)) (now (back .entry)) → r ≡ ghashParts h (now (a .entry) ++ now (b .entry)) (now (text .entry)) last) ⌝ }
 {
     let first = absorb_text(front, back, fine, Wide { high: 0, low: 0 }, 0, a);
     let place = a.len() % 16;
@@ -41,28 +46,28 @@ fn hash_by(
 }
 
 // Each kind of tables has a function of its own, so that the two may have the same place on the stack.
-fn hash_short(h: [u8; 16], a: &[u8], b: &[u8], text: &[u8], last: [u8; 16]) -> [u8; 16]
-    ensures { λ r. ⌜ r ≡ ghash h (cut (now (a .entry) ++ now (b .entry)) ++ (cut (now (text .entry)) ++ (last ∷ []))) ⌝ }
+fn hash_short(h: Block, a: &[u8], b: &[u8], text: &[u8], last: Block) -> Block
+    ensures { λ r. ⌜ r ≡ ghashParts h (now (a .entry) ++ now (b .entry)) (now (text .entry)) last ⌝ }
 {
-    let mut front: [u64; 512] = [0; 512];
-    let mut back: [u64; 512] = [0; 512];
+    let mut front: Table = [0; 512];
+    let mut back: Table = [0; 512];
     fill_tables(wide_of(h), &mut front, &mut back, false);
     hash_by(&front, &back, false, a, b, text, last)
 }
 
 // The same by fine tables.
-fn hash_long(h: [u8; 16], a: &[u8], b: &[u8], text: &[u8], last: [u8; 16]) -> [u8; 16]
-    ensures { λ r. ⌜ r ≡ ghash h (cut (now (a .entry) ++ now (b .entry)) ++ (cut (now (text .entry)) ++ (last ∷ []))) ⌝ }
+fn hash_long(h: Block, a: &[u8], b: &[u8], text: &[u8], last: Block) -> Block
+    ensures { λ r. ⌜ r ≡ ghashParts h (now (a .entry) ++ now (b .entry)) (now (text .entry)) last ⌝ }
 {
-    let mut front: [u64; 1312] = [0; 1312];
-    let mut back: [u64; 1312] = [0; 1312];
+    let mut front: FineTable = [0; 1312];
+    let mut back: FineTable = [0; 1312];
     fill_tables(wide_of(h), &mut front, &mut back, true);
     hash_by(&front, &back, true, a, b, text, last)
 }
 
 // The associated data in two parts, the text, each filled with zeros to whole blocks, and the last block.
-pub fn ghash_parts(h: [u8; 16], a: &[u8], b: &[u8], text: &[u8], last: [u8; 16]) -> [u8; 16]
-    ensures { λ r. ⌜ r ≡ ghash h (cut (now (a .entry) ++ now (b .entry)) ++ (cut (now (text .entry)) ++ (last ∷ []))) ⌝ }
+pub fn ghash_parts(h: Block, a: &[u8], b: &[u8], text: &[u8], last: Block) -> Block
+    ensures { λ r. ⌜ r ≡ ghashParts h (now (a .entry) ++ now (b .entry)) (now (text .entry)) last ⌝ }
 {
     if text.len() < LONG {
         return hash_short(h, a, b, text, last);

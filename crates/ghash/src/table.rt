@@ -7,7 +7,7 @@ ghost use Prim.Native.Nat.{ℕ, _+_, _*_, _/_, _%_, _^_, _≤_, _<_};
 ghost use lib.Bits.{bitXor};
 ghost use lib.ListN.{length};
 ghost use Rattle.ghash.specs.Field.{timesXs, timesH};
-ghost use Rattle.ghash.specs.Table.{adds, width, windows, entries, Window, Sums, entryIn, Filled, WordTable, TablesOf, Room};
+ghost use Rattle.ghash.specs.Table.{adds, windowWidth, windows, entries, Window, Sums, entryIn, Filled, WordTable, TablesOf, Room};
 ghost use Rattle.ghash.specs.Words.{val, blockOf};
 
 fn read_entry(table: &[u64], i: usize) -> Wide
@@ -66,9 +66,9 @@ fn fill_four(v: Wide, table: &mut [u64], base: usize) -> Wide
 
 // The same of a window.
 fn fill_window(v: Wide, table: &mut [u64], base: usize, fine: bool) -> Wide
-    requires { ⌜ 2 * (base + 2 ^ width fine) ≤ length (now table) ⌝ }
-    ensures { λ _. ⌜ ((f : ℕ → ℕ) → Window f base (width fine) (val v) → Filled f (now (table .entry)) base → Filled f (now (table .exit)) (base + 2 ^ width fine)) ⌝ }
-    ensures { λ r. ⌜ val r ≡ timesXs (width fine) (val v) ⌝ }
+    requires { ⌜ 2 * (base + 2 ^ windowWidth fine) ≤ length (now table) ⌝ }
+    ensures { λ _. ⌜ ((f : ℕ → ℕ) → Window f base (windowWidth fine) (val v) → Filled f (now (table .entry)) base → Filled f (now (table .exit)) (base + 2 ^ windowWidth fine)) ⌝ }
+    ensures { λ r. ⌜ val r ≡ timesXs (windowWidth fine) (val v) ⌝ }
     ensures { λ _. ⌜ length (now (table .exit)) ≡ length (now (table .entry)) ⌝ }
 {
     if !fine {
@@ -81,20 +81,25 @@ fn fill_window(v: Wide, table: &mut [u64], base: usize, fine: bool) -> Wide
     next
 }
 
+// The windows of six bits, and of four, that a word has after its first four bits.
+const FINE_WINDOWS: usize = 10;
+
+const WINDOWS: usize = 15;
+
 // The number of windows.
 fn count(fine: bool) -> usize
     ensures { λ r. ⌜ r ≡ windows fine ⌝ }
 {
     if fine {
-        return 10;
+        return FINE_WINDOWS;
     }
-    15
+    WINDOWS
 }
 
 // Where the window k begins.
 fn place(k: usize, fine: bool) -> usize
     requires { ⌜ k < windows fine ⌝ }
-    ensures { λ r. ⌜ (r ≡ 16 + k * 2 ^ width fine) × (r + 2 ^ width fine ≤ entries fine) ⌝ }
+    ensures { λ r. ⌜ (r ≡ 16 + k * 2 ^ windowWidth fine) × (r + 2 ^ windowWidth fine ≤ entries fine) ⌝ }
 {
     if fine {
         return 16 + k * 64;
@@ -104,7 +109,7 @@ fn place(k: usize, fine: bool) -> usize
 
 // The last window of a word.
 fn last_window(w: u64, fine: bool) -> usize
-    ensures { λ r. ⌜ (r ≡ w % 2 ^ width fine) × (r < 2 ^ width fine) ⌝ }
+    ensures { λ r. ⌜ (r ≡ w % 2 ^ windowWidth fine) × (r < 2 ^ windowWidth fine) ⌝ }
 {
     if fine {
         return (w % 64) as usize;
@@ -114,7 +119,7 @@ fn last_window(w: u64, fine: bool) -> usize
 
 // The word without it.
 fn other_windows(w: u64, fine: bool) -> u64
-    ensures { λ r. ⌜ r ≡ w / 2 ^ width fine ⌝ }
+    ensures { λ r. ⌜ r ≡ w / 2 ^ windowWidth fine ⌝ }
 {
     if fine {
         return w / 64;

@@ -1,5 +1,7 @@
 // Blocks as 128-bit numbers in two words.
 use octets::big_endian::bytes64;
+use octets::strings::Block;
+use octets::strings::two_eights;
 ghost use mathlib.Core.Path.{_≡_};
 ghost use mathlib.Core.List.{[], _∷_};
 ghost use Prim.Native.Nat.{_+_, _≤_};
@@ -35,32 +37,13 @@ pub(crate) fn times_x(v: Wide) -> Wide
     }
 }
 
-pub(crate) fn block_of(w: Wide) -> [u8; 16]
+pub(crate) fn block_of(w: Wide) -> Block
     ensures { λ r. ⌜ r ≡ blockOf w ⌝ }
 {
-    let a = bytes64(w.high);
-    let b = bytes64(w.low);
-    [
-        a[0],
-        a[1],
-        a[2],
-        a[3],
-        a[4],
-        a[5],
-        a[6],
-        a[7],
-        b[0],
-        b[1],
-        b[2],
-        b[3],
-        b[4],
-        b[5],
-        b[6],
-        b[7],
-    ]
+    two_eights(bytes64(w.high), bytes64(w.low))
 }
 
-fn word_of(a: u8, b: u8, c: u8, d: u8, e: u8, f: u8, g: u8, h: u8) -> u64
+fn word64_of(a: u8, b: u8, c: u8, d: u8, e: u8, f: u8, g: u8, h: u8) -> u64
     ensures { λ r. ⌜ be 8 r ≡ a ∷ b ∷ c ∷ d ∷ e ∷ f ∷ g ∷ h ∷ [] ⌝ }
 {
     let first = ((a as u64 * 256 + b as u64) * 256 + c as u64) * 256 + d as u64;
@@ -68,11 +51,11 @@ fn word_of(a: u8, b: u8, c: u8, d: u8, e: u8, f: u8, g: u8, h: u8) -> u64
 }
 
 // The eight bytes from place i on.
-fn word_at(s: &[u8], i: usize) -> u64
+fn word64_at(s: &[u8], i: usize) -> u64
     requires { ⌜ i + 8 ≤ length (now s) ⌝ }
     ensures { λ r. ⌜ be 8 r ≡ take 8 (drop i (now (s .entry))) ⌝ }
 {
-    word_of(
+    word64_of(
         s[i],
         s[i + 1],
         s[i + 2],
@@ -90,12 +73,12 @@ pub(crate) fn wide_at(s: &[u8], i: usize) -> Wide
     ensures { λ r. ⌜ blockOf r ≡ take 16 (drop i (now (s .entry))) ⌝ }
 {
     Wide {
-        high: word_at(s, i),
-        low: word_at(s, i + 8),
+        high: word64_at(s, i),
+        low: word64_at(s, i + 8),
     }
 }
 
-pub(crate) fn wide_of(b: [u8; 16]) -> Wide
+pub(crate) fn wide_of(b: Block) -> Wide
     ensures { λ r. ⌜ blockOf r ≡ b ⌝ }
     ensures { λ r. ⌜ val r ≡ number b ⌝ }
 {

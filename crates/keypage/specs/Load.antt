@@ -36,7 +36,7 @@ partTests row algorithm f s =
 
 -- the key: the KEY part itself, the row's, or what the wrapped bytes hold
 unfoldable pub keyLoaded : Option (List ℕ) → ℕ → List ℕ → List ℕ
-keyLoaded row f s = byFormat f s (keyIn row) (wrap.keyOf (keyIn row) (wrappedOf s)) []
+keyLoaded row f s = byFormat f s (keyIn row) (wrap.unwrappedKey (keyIn row) (wrappedOf s)) []
 
 -- what the KEY part decides, with room for the key
 abbrev pub partAnswer : Option (List ℕ) → ℕ → ℕ → List ℕ → List ℕ → ℕ × List ℕ

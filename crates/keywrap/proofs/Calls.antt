@@ -12,9 +12,8 @@ use Rattle.octets.specs.Values.{bytesAt}
 use Rattle.octets.specs.Lent.{isNot, over}
 use Rattle.octets.specs.Same.{same}
 use Rattle.octets.proofs.Values.{bytesAt-part}
-use Rattle.octets.proofs.Tests.{or-left, or-right}
-use Rattle.octets.proofs.Lent.{isNot-false, over-zeros}
-use Rattle.keywrap.specs.Wrap.{Register, startValue, joined, wrapped, unwrapped, startRight, keyOf}
+use Rattle.octets.proofs.Lent.{over-zeros}
+use Rattle.keywrap.specs.Wrap.{Register, startValue, registerBytes, wrapped, unwrapped, startRight, unwrappedKey}
 use Rattle.keywrap.specs.Calls.{wrapNumber, wrapAnswer, unwrapNumber, unwrapAnswer}
 
 -- eight bytes from a place, copied over as many zeros
@@ -22,13 +21,6 @@ pub copied-part : (s : List ℕ) (at : ℕ) → at + 8 ≤ length s → over (ta
 copied-part s at fits =
     let eight : at + 8 - at ≡ 8 = omega arith in
     rw eight (over-zeros (take 8 (drop at s)) 8 (length-take-le 8 (drop at s) (omega (arith, length-drop at s))) ∙ sym (bytesAt-part 8 s at fits))
-
-module _ (kek key : List ℕ) (right : (isNot 32 kek || isNot 32 key) ≡ false) where
-  pub kek-right : length kek ≡ 32
-  kek-right = isNot-false 32 kek (or-left (isNot 32 kek) (isNot 32 key) right)
-
-  pub key-right : length key ≡ 32
-  key-right = isNot-false 32 key (or-right (isNot 32 kek) (isNot 32 key) right)
 
 -- ---- wrapping
 
@@ -66,7 +58,7 @@ module _ (kek w out : List ℕ) where
   unwrap-start right room long wrong = rw (right, room, long, wrong)
 
   pub unwrap-key : isNot 32 kek ≡ false → ltb (length out) 32 ≡ false → isNot 40 w ≡ false → startRight kek w ≡ true
-      → unwrapAnswer kek w out ≡ (0, over (keyOf kek w) out)
+      → unwrapAnswer kek w out ≡ (0, over (unwrappedKey kek w) out)
   unfolding unwrapAnswer unwrapNumber
   unwrap-key right room long start = rw (right, room, long, start)
 
@@ -77,6 +69,6 @@ module _ (kek w out : List ℕ) where
     start-tested t e = rw (← eu) e
 
     pub unwrap-done : (after : List ℕ) (r : ℕ) → isNot 32 kek ≡ false → ltb (length out) 32 ≡ false → isNot 40 w ≡ false
-        → startRight kek w ≡ true → (r ≡ 0) × (after ≡ over (joined (drop 1 u)) out) → unwrapAnswer kek w out ≡ (r, after)
-    unfolding keyOf
+        → startRight kek w ≡ true → (r ≡ 0) × (after ≡ over (registerBytes (drop 1 u)) out) → unwrapAnswer kek w out ≡ (r, after)
+    unfolding unwrappedKey
     unwrap-done after r right room long start given = unwrap-key right room long start ∙ rw (given .0, given .1, eu)

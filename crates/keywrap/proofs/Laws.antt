@@ -11,14 +11,14 @@ use Rattle.octets.specs.Lent.{over}
 use Rattle.octets.proofs.Lent.{isNot-right, take-over, over-injective}
 use Rattle.octets.proofs.Unique.{unique}
 use Rattle.aes.specs.KeyExpansion.{schedule}
-use Rattle.keywrap.specs.Wrap.{wrapped, startRight, keyOf}
+use Rattle.keywrap.specs.Wrap.{wrapped, startRight, unwrappedKey}
 use Rattle.keywrap.specs.Calls.{wrapAnswer, unwrapAnswer}
-use Rattle.keywrap.specs.Laws.{WrapsTo, UnwrapsTo, UnwrapsExactly, OneKey, ElseNine, WrappedLength, WrappedBytes}
+use Rattle.keywrap.specs.Laws.{WrapsTo, UnwrapsTo, UnwrapsExactly, OneKey, UnwrapElseNine, WrappedLength, WrappedBytes}
 use Rattle.keywrap.specs.Laws.{WrapTestsRise, UnwrapTestsRise, WrapsInRange, UnwrapsWrapped, WrapUnique, UnwrapUnique}
-use Rattle.keywrap.proofs.Parts.{length-joined, bytes-joined}
+use Rattle.keywrap.proofs.Parts.{length-registerBytes, bytes-registerBytes}
 use Rattle.keywrap.proofs.Inverse.{wrapSteps-formed, wrapSteps-good}
 use Rattle.keywrap.proofs.Calls.{wrap-done, unwrap-start, unwrap-key}
-use Rattle.keywrap.proofs.RoundTrip.{begin-formed, begin-good, keyOf-of, startRight-of, keyOf-size, key-wraps}
+use Rattle.keywrap.proofs.RoundTrip.{begin-formed, begin-good, unwrappedKey-of, startRight-of, unwrappedKey-size, key-wraps}
 
 -- ---- wrapped bytes
 
@@ -26,16 +26,16 @@ pub wrapped-length : WrappedLength
 unfolding wrapped
 wrapped-length kek key =
     let h = wrapSteps-formed (schedule kek) 24 (begin-formed key) in
-    length-joined (h .eight) ∙ omega (arith, h .five)
+    length-registerBytes (h .eight) ∙ omega (arith, h .five)
 
 pub wrapped-bytes : WrappedBytes
 unfolding wrapped
-wrapped-bytes kek key hk h = bytes-joined (wrapSteps-good kek hk 24 (begin-good key h) .bytes)
+wrapped-bytes kek key hk h = bytes-registerBytes (wrapSteps-good kek hk 24 (begin-good key h) .bytes)
 
 -- ---- over lent bytes of the right lengths
 
 module _ (kek w out : List ℕ) (size : length kek ≡ 32) (long : length w ≡ 40) (room : 32 ≤ length out) where
-  answers-key : startRight kek w ≡ true → unwrapAnswer kek w out ≡ (0, over (keyOf kek w) out)
+  answers-key : startRight kek w ≡ true → unwrapAnswer kek w out ≡ (0, over (unwrappedKey kek w) out)
   answers-key = unwrap-key kek w out (ap not (eq-eqb _ 32 size)) (le-ltb _ 32 room) (ap not (eq-eqb _ 40 long))
 
   answers-nine : startRight kek w ≡ false → unwrapAnswer kek w out ≡ (9, out)
@@ -49,7 +49,7 @@ unwraps-exactly kek w out k size hk long hw room = (to, from)
     by : (t : Bool) → startRight kek w ≡ t → UnwrapsTo kek w out k → WrapsTo kek k w
     by true start h =
         let written = ap (λ a. a .1) (sym (answers-key kek w out size long room start) ∙ h .answers) in
-        let found : keyOf kek w ≡ k = over-injective _ k out (keyOf-size kek hk w long hw ∙ sym (h .size)) (omega (arith, h .size, room)) written in
+        let found : unwrappedKey kek w ≡ k = over-injective _ k out (unwrappedKey-size kek hk w long hw ∙ sym (h .size)) (omega (arith, h .size, room)) written in
         rw found at (key-wraps kek hk w long hw start)
     by false wrong h =
         let nine : _≡_ {A = ℕ} 9 0 = ap (λ a. a .0) (sym (answers-nine kek w out size long room wrong) ∙ h .answers) in
@@ -59,16 +59,16 @@ unwraps-exactly kek w out k size hk long hw room = (to, from)
     to = by (startRight kek w) refl
 
     from : WrapsTo kek k w → UnwrapsTo kek w out k
-    from h = record { size = h .size; answers = answers-key kek w out size long room (startRight-of kek hk k w h) ∙ rw (keyOf-of kek hk k w h) }
+    from h = record { size = h .size; answers = answers-key kek w out size long room (startRight-of kek hk k w h) ∙ rw (unwrappedKey-of kek hk k w h) }
 
 pub one-key : OneKey
-one-key kek k k′ w hk h h′ = sym (keyOf-of kek hk k w h) ∙ keyOf-of kek hk k′ w h′
+one-key kek k k′ w hk h h′ = sym (unwrappedKey-of kek hk k w h) ∙ unwrappedKey-of kek hk k′ w h′
 
-pub else-nine : ElseNine
+pub else-nine : UnwrapElseNine
 else-nine kek w out size hk long hw room none = answers-nine kek w out size long room (by (startRight kek w) refl)
   where
     by : (t : Bool) → startRight kek w ≡ t → startRight kek w ≡ false
-    by true start = absurd (none (keyOf kek w) (key-wraps kek hk w long hw start))
+    by true start = absurd (none (unwrappedKey kek w) (key-wraps kek hk w long hw start))
     by false wrong = wrong
 
 -- ---- the calls

@@ -18,7 +18,7 @@ use Rattle.octets.specs.Values.{values, bytesAt}
 use Rattle.octets.specs.Bytes.{Bytes}
 use Rattle.octets.proofs.Values.{cons-equal, length-values, getD-values, values-later, values-from, values-same, values-list, bytesAt-part}
 use Rattle.octets.proofs.Bytes.{bytes-nil, bytes-append, bytes-values}
-use Rattle.keywrap.specs.Wrap.{Register, parts, joined}
+use Rattle.keywrap.specs.Wrap.{Register, parts, registerBytes}
 
 abbrev pub Eight : List ℕ → Type 0
 Eight p = length p ≡ 8
@@ -63,20 +63,20 @@ each-owned (p ∷ r) (u ∷ us) o = each-cons (o .0 .1 .0 .1) (each-owned r us (
 
 -- ---- the string of the parts
 
-pub length-joined : {r : Register} → Each Eight r → length (joined r) ≡ 8 * length r
-length-joined {r = []} h = refl
-length-joined {r = p ∷ r} h = length-append p (joined r) ∙ omega (arith, each-head h, length-joined (each-tail h))
+pub length-registerBytes : {r : Register} → Each Eight r → length (registerBytes r) ≡ 8 * length r
+length-registerBytes {r = []} h = refl
+length-registerBytes {r = p ∷ r} h = length-append p (registerBytes r) ∙ omega (arith, each-head h, length-registerBytes (each-tail h))
 
-pub bytes-joined : {r : Register} → Each Bytes r → Bytes (joined r)
-bytes-joined {r = []} h = bytes-nil
-bytes-joined {r = p ∷ r} h = bytes-append (each-head h) (bytes-joined (each-tail h))
+pub bytes-registerBytes : {r : Register} → Each Bytes r → Bytes (registerBytes r)
+bytes-registerBytes {r = []} h = bytes-nil
+bytes-registerBytes {r = p ∷ r} h = bytes-append (each-head h) (bytes-registerBytes (each-tail h))
 
 -- without the first part
-pub joined-rest : (r : Register) (s : List ℕ) → length r ≡ 5 → Each Eight r → s ≡ joined r → take 32 (drop 8 s) ≡ joined (drop 1 r)
-joined-rest [] s five eight e = absurd (omega arith)
-joined-rest (p ∷ r) s five eight e =
-    ap (λ (l : List ℕ). take 32 (drop 8 l)) e ∙ ap (take 32) (drop-at p (joined r) 8 (each-head eight))
-    ∙ take-all 32 (joined r) (omega (arith, length-joined (each-tail eight)))
+pub registerBytes-rest : (r : Register) (s : List ℕ) → length r ≡ 5 → Each Eight r → s ≡ registerBytes r → take 32 (drop 8 s) ≡ registerBytes (drop 1 r)
+registerBytes-rest [] s five eight e = absurd (omega arith)
+registerBytes-rest (p ∷ r) s five eight e =
+    ap (λ (l : List ℕ). take 32 (drop 8 l)) e ∙ ap (take 32) (drop-at p (registerBytes r) 8 (each-head eight))
+    ∙ take-all 32 (registerBytes r) (omega (arith, length-registerBytes (each-tail eight)))
 
 -- ---- the parts of a string
 
@@ -104,15 +104,15 @@ parts-first p s n e =
 
 -- ---- each is the other's inverse
 
-pub parts-joined : {r : Register} → Each Eight r → parts (length r) (joined r) ≡ r
-parts-joined {r = []} h = refl
-parts-joined {r = p ∷ r} h = parts-first p (joined r) (length r) (each-head h) ∙ cons-equal refl (parts-joined (each-tail h))
+pub parts-registerBytes : {r : Register} → Each Eight r → parts (length r) (registerBytes r) ≡ r
+parts-registerBytes {r = []} h = refl
+parts-registerBytes {r = p ∷ r} h = parts-first p (registerBytes r) (length r) (each-head h) ∙ cons-equal refl (parts-registerBytes (each-tail h))
 
-pub joined-four : (s : List ℕ) → length s ≡ 32 → joined (parts 4 s) ≡ s
-joined-four s e = values-list s 0 32 e
+pub registerBytes-four : (s : List ℕ) → length s ≡ 32 → registerBytes (parts 4 s) ≡ s
+registerBytes-four s e = values-list s 0 32 e
 
-pub joined-five : (s : List ℕ) → length s ≡ 40 → joined (parts 5 s) ≡ s
-joined-five s e = values-list s 0 40 e
+pub registerBytes-five : (s : List ℕ) → length s ≡ 40 → registerBytes (parts 5 s) ≡ s
+registerBytes-five s e = values-list s 0 40 e
 
 -- ---- the loop that writes the string: after i bytes
 
@@ -125,14 +125,14 @@ getD-parts n s i h =
     place : 8 * (0 + i / 8) + i % 8 ≡ i
     place = omega (arith, div-add-mod' i 8)
 
-pub joined-turn : (r : Register) (s : List ℕ) (i : ℕ) → length r ≡ 5 → Each Eight r → length s ≡ 40 → i < 40 → take i s ≡ take i (joined r)
-    → take (i + 1) (set s i (getD (getD r (i / 8) []) (i % 8) 0)) ≡ take (i + 1) (joined r)
-joined-turn r s i five eight long h e =
-    rw (add-one, take-suc-set s i _ (omega arith), take-suc (joined r) i 0 (omega (arith, length-joined eight)))
+pub registerBytes-turn : (r : Register) (s : List ℕ) (i : ℕ) → length r ≡ 5 → Each Eight r → length s ≡ 40 → i < 40 → take i s ≡ take i (registerBytes r)
+    → take (i + 1) (set s i (getD (getD r (i / 8) []) (i % 8) 0)) ≡ take (i + 1) (registerBytes r)
+registerBytes-turn r s i five eight long h e =
+    rw (add-one, take-suc-set s i _ (omega arith), take-suc (registerBytes r) i 0 (omega (arith, length-registerBytes eight)))
     (ap₂ (λ (l : List ℕ) (b : ℕ). l ++ b ∷ []) e byte)
   where
-    byte : getD (getD r (i / 8) []) (i % 8) 0 ≡ getD (joined r) i 0
-    byte = ap (λ (l : Register). getD (getD l (i / 8) []) (i % 8) 0) (sym (parts-joined eight)) ∙ getD-parts (length r) (joined r) i (omega arith)
+    byte : getD (getD r (i / 8) []) (i % 8) 0 ≡ getD (registerBytes r) i 0
+    byte = ap (λ (l : Register). getD (getD l (i / 8) []) (i % 8) 0) (sym (parts-registerBytes eight)) ∙ getD-parts (length r) (registerBytes r) i (omega arith)
 
-pub joined-end : (r : Register) (s : List ℕ) → length r ≡ 5 → Each Eight r → length s ≡ 40 → take 40 s ≡ take 40 (joined r) → s ≡ joined r
-joined-end r s five eight long e = sym (take-all 40 s (omega arith)) ∙ e ∙ take-all 40 (joined r) (omega (arith, length-joined eight))
+pub registerBytes-end : (r : Register) (s : List ℕ) → length r ≡ 5 → Each Eight r → length s ≡ 40 → take 40 s ≡ take 40 (registerBytes r) → s ≡ registerBytes r
+registerBytes-end r s five eight long e = sym (take-all 40 s (omega arith)) ∙ e ∙ take-all 40 (registerBytes r) (omega (arith, length-registerBytes eight))

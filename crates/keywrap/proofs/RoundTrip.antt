@@ -12,9 +12,9 @@ use Rattle.octets.specs.Same.{same}
 use Rattle.octets.proofs.Bytes.{bytes-nil, bytes-values}
 use Rattle.octets.proofs.Same.{same-equal, same-refl}
 use Rattle.aes.specs.KeyExpansion.{schedule}
-use Rattle.keywrap.specs.Wrap.{Register, startValue, parts, joined, wrapSteps, wrapped, unwrapSteps, unwrapped, startRight, keyOf}
+use Rattle.keywrap.specs.Wrap.{Register, startValue, parts, registerBytes, wrapSteps, wrapped, unwrapSteps, unwrapped, startRight, unwrappedKey}
 use Rattle.keywrap.specs.Laws.{WrapsTo}
-use Rattle.keywrap.proofs.Parts.{each-cons, each-tail, length-joined, bytes-joined, parts-eight, parts-bytes, parts-joined, joined-four, joined-five}
+use Rattle.keywrap.proofs.Parts.{each-cons, each-tail, length-registerBytes, bytes-registerBytes, parts-eight, parts-bytes, parts-registerBytes, registerBytes-four, registerBytes-five}
 use Rattle.keywrap.proofs.Inverse.{Formed, Good, wrapSteps-good, unwrapSteps-good, unwrapSteps-wrapSteps, wrapSteps-unwrapSteps}
 
 -- ---- the registers that the two start from
@@ -37,12 +37,12 @@ module _ (kek : List ℕ) (hk : Bytes kek) where
       let good = wrapSteps-good kek hk 24 (begin-good k (h .bytes)) in
       rw (← h .wraps) (ap (unwrapSteps (schedule kek) 24) (five-parts _ (good .formed)) ∙ unwrapSteps-wrapSteps kek hk 24 (begin-good k (h .bytes)))
     where
-      five-parts : (r : Register) → Formed r → parts 5 (joined r) ≡ r
-      five-parts r f = ap (λ (n : ℕ). parts n (joined r)) (sym (f .five)) ∙ parts-joined (f .eight)
+      five-parts : (r : Register) → Formed r → parts 5 (registerBytes r) ≡ r
+      five-parts r f = ap (λ (n : ℕ). parts n (registerBytes r)) (sym (f .five)) ∙ parts-registerBytes (f .eight)
 
-  pub keyOf-of : (k w : List ℕ) → WrapsTo kek k w → keyOf kek w ≡ k
-  unfolding keyOf
-  keyOf-of k w h = ap (λ (r : Register). joined (drop 1 r)) (unwrapped-of k w h) ∙ joined-four k (h .size)
+  pub unwrappedKey-of : (k w : List ℕ) → WrapsTo kek k w → unwrappedKey kek w ≡ k
+  unfolding unwrappedKey
+  unwrappedKey-of k w h = ap (λ (r : Register). registerBytes (drop 1 r)) (unwrapped-of k w h) ∙ registerBytes-four k (h .size)
 
   pub startRight-of : (k w : List ℕ) → WrapsTo kek k w → startRight kek w ≡ true
   unfolding startRight
@@ -55,34 +55,34 @@ module _ (kek : List ℕ) (hk : Bytes kek) where
     unfolding unwrapped
     unwrapped-good = unwrapSteps-good kek hk 24 (wrapped-good w hw)
 
-    pub keyOf-size : length (keyOf kek w) ≡ 32
-    unfolding keyOf
-    keyOf-size = go (unwrapped kek w) unwrapped-good
+    pub unwrappedKey-size : length (unwrappedKey kek w) ≡ 32
+    unfolding unwrappedKey
+    unwrappedKey-size = go (unwrapped kek w) unwrapped-good
       where
-        go : (u : Register) → Good u → length (joined (drop 1 u)) ≡ 32
+        go : (u : Register) → Good u → length (registerBytes (drop 1 u)) ≡ 32
         go [] g = absurd (omega (arith, g .formed .five))
-        go (a ∷ s) g = length-joined (each-tail (g .formed .eight)) ∙ omega (arith, g .formed .five)
+        go (a ∷ s) g = length-registerBytes (each-tail (g .formed .eight)) ∙ omega (arith, g .formed .five)
 
-    keyOf-bytes : Bytes (keyOf kek w)
-    unfolding keyOf
-    keyOf-bytes = go (unwrapped kek w) unwrapped-good
+    unwrappedKey-bytes : Bytes (unwrappedKey kek w)
+    unfolding unwrappedKey
+    unwrappedKey-bytes = go (unwrapped kek w) unwrapped-good
       where
-        go : (u : Register) → Good u → Bytes (joined (drop 1 u))
+        go : (u : Register) → Good u → Bytes (registerBytes (drop 1 u))
         go [] g = bytes-nil
-        go (a ∷ s) g = bytes-joined (each-tail (g .bytes))
+        go (a ∷ s) g = bytes-registerBytes (each-tail (g .bytes))
 
-    rewraps : startRight kek w ≡ true → wrapped kek (keyOf kek w) ≡ w
-    unfolding startRight keyOf wrapped unwrapped
+    rewraps : startRight kek w ≡ true → wrapped kek (unwrappedKey kek w) ≡ w
+    unfolding startRight unwrappedKey wrapped unwrapped
     rewraps start =
-        ap (λ (r : Register). joined (wrapSteps (schedule kek) 24 r)) (again (unwrapped kek w) unwrapped-good (same-equal _ startValue start))
-        ∙ ap joined (wrapSteps-unwrapSteps kek hk 24 (wrapped-good w hw))
-        ∙ joined-five w long
+        ap (λ (r : Register). registerBytes (wrapSteps (schedule kek) 24 r)) (again (unwrapped kek w) unwrapped-good (same-equal _ startValue start))
+        ∙ ap registerBytes (wrapSteps-unwrapSteps kek hk 24 (wrapped-good w hw))
+        ∙ registerBytes-five w long
       where
-        again : (u : Register) → Good u → getD u 0 [] ≡ startValue → startValue ∷ parts 4 (joined (drop 1 u)) ≡ u
+        again : (u : Register) → Good u → getD u 0 [] ≡ startValue → startValue ∷ parts 4 (registerBytes (drop 1 u)) ≡ u
         again [] g e = absurd (omega (arith, g .formed .five))
         again (a ∷ s) g e =
             let four : length s ≡ 4 = omega (arith, g .formed .five) in
-            rw (← e) (ap (λ (r : Register). a ∷ r) (ap (λ (n : ℕ). parts n (joined s)) (sym four) ∙ parts-joined (each-tail (g .formed .eight))))
+            rw (← e) (ap (λ (r : Register). a ∷ r) (ap (λ (n : ℕ). parts n (registerBytes s)) (sym four) ∙ parts-registerBytes (each-tail (g .formed .eight))))
 
-    pub key-wraps : startRight kek w ≡ true → WrapsTo kek (keyOf kek w) w
-    key-wraps start = record { size = keyOf-size; bytes = keyOf-bytes; wraps = rewraps start }
+    pub key-wraps : startRight kek w ≡ true → WrapsTo kek (unwrappedKey kek w) w
+    key-wraps start = record { size = unwrappedKey-size; bytes = unwrappedKey-bytes; wraps = rewraps start }

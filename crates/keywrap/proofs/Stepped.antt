@@ -16,7 +16,7 @@ use Rattle.aes.specs.Cipher.{cipher}
 use Rattle.aes.specs.KeyExpansion.{schedule}
 use Rattle.aes.specs.InvCipher.{invCipher}
 use Rattle.aes.proofs.Laws.{cipher-length, invCipher-length}
-use Rattle.keywrap.specs.Wrap.{Register, startValue, parts, joined, partAt, wrapStep, wrapSteps, wrapped, unwrapStep, unwrapSteps, unwrapped}
+use Rattle.keywrap.specs.Wrap.{Register, startValue, parts, registerBytes, partAt, wrapStep, wrapSteps, wrapped, unwrapStep, unwrapSteps, unwrapped}
 
 -- ---- the halves of a block, as they are read
 
@@ -55,7 +55,7 @@ module _ (ks : List State) (t i : ℕ) (r : Register) (block b mask first other 
 -- ---- from the start to the end
 
 pub wrapped-made : (kek key : List ℕ) (ks : List State) (r s : Register) (b : List ℕ) → ks ≡ schedule kek → r ≡ startValue ∷ parts 4 key
-    → s ≡ wrapSteps ks 24 r → b ≡ joined s → b ≡ wrapped kek key
+    → s ≡ wrapSteps ks 24 r → b ≡ registerBytes s → b ≡ wrapped kek key
 unfolding wrapped
 wrapped-made kek key ks r s b keys starts steps joins = joins ∙ rw (steps, starts, keys)
 

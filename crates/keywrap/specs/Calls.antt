@@ -6,10 +6,8 @@ use mathlib.Core.List.{List, [], _∷_}
 use lib.Dec.{ltb}
 use lib.ListN.{length}
 use Rattle.octets.specs.Lent.{Tests, isNot, lowest, answer}
-use Rattle.keywrap.specs.Wrap.{wrapped, startRight, keyOf}
-
-abbrev pub keySize : ℕ
-keySize = 32
+pub use Rattle.aes.specs.Calls.{keySize}
+use Rattle.keywrap.specs.Wrap.{wrapped, startRight, unwrappedKey}
 
 abbrev pub wrappedSize : ℕ
 wrappedSize = 40
@@ -30,4 +28,4 @@ unfoldable pub unwrapNumber : List ℕ → List ℕ → ℕ → ℕ
 unwrapNumber kek w room = lowest (unwrapTests kek w room)
 
 unfoldable pub unwrapAnswer : List ℕ → List ℕ → List ℕ → ℕ × List ℕ
-unwrapAnswer kek w out = answer (unwrapNumber kek w (length out)) (keyOf kek w) out
+unwrapAnswer kek w out = answer (unwrapNumber kek w (length out)) (unwrappedKey kek w) out

@@ -35,8 +35,8 @@ abbrev pub OneKey : Type 0
 OneKey = (kek k k′ w : List ℕ) → Bytes kek → WrapsTo kek k w → WrapsTo kek k′ w → k ≡ k′
 
 -- where none does, the answer is 9 and the output as it was
-abbrev pub ElseNine : Type 0
-ElseNine =
+abbrev pub UnwrapElseNine : Type 0
+UnwrapElseNine =
     (kek w out : List ℕ) → length kek ≡ keySize → Bytes kek → length w ≡ wrappedSize → Bytes w → keySize ≤ length out
     → ((k : List ℕ) → WrapsTo kek k w → ⊥) → unwrapAnswer kek w out ≡ (9, out)
 

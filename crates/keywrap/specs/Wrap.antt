@@ -25,9 +25,9 @@ startValue = replicate 8 0xa6
 abbrev pub parts : ℕ → List ℕ → Register
 parts n s = values (λ i. bytesAt 8 s (8 * i)) 0 n
 
-abbrev pub joined : Register → List ℕ
-joined [] = []
-joined (p ∷ r) = p ++ joined r
+abbrev pub registerBytes : Register → List ℕ
+registerBytes [] = []
+registerBytes (p ∷ r) = p ++ registerBytes r
 
 -- step t, from 1 to 24, is t = n * j + i of the specification, and works on R[i]
 abbrev pub partAt : ℕ → ℕ
@@ -46,7 +46,7 @@ wrapSteps ks (suc n) r = wrapStep ks (suc n) (wrapSteps ks n r)
 
 -- 2.2.1
 unfoldable pub wrapped : List ℕ → List ℕ → List ℕ
-wrapped kek key = joined (wrapSteps (schedule kek) 24 (startValue ∷ parts 4 key))
+wrapped kek key = registerBytes (wrapSteps (schedule kek) 24 (startValue ∷ parts 4 key))
 
 -- 2.2.2, step 2: B = AES-1(K, (A ^ t) | R[i]); A = MSB(64, B); R[i] = LSB(64, B)
 unfoldable pub unwrapStep : List State → ℕ → Register → Register
@@ -66,5 +66,5 @@ unwrapped kek w = unwrapSteps (schedule kek) 24 (parts 5 w)
 unfoldable pub startRight : List ℕ → List ℕ → Bool
 startRight kek w = same (getD (unwrapped kek w) 0 []) startValue
 
-unfoldable pub keyOf : List ℕ → List ℕ → List ℕ
-keyOf kek w = joined (drop 1 (unwrapped kek w))
+unfoldable pub unwrappedKey : List ℕ → List ℕ → List ℕ
+unwrappedKey kek w = registerBytes (drop 1 (unwrapped kek w))

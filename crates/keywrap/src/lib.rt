@@ -2,9 +2,13 @@
 mod register;
 mod steps;
 
+use aes::RoundKeys;
 use aes::expand_key;
 use octets::strings::equal;
+use octets::strings::first32;
 use octets::strings::put;
+use register::Part;
+use register::Register;
 use register::bytes_of;
 use register::from_key;
 use register::from_wrapped;
@@ -18,43 +22,47 @@ ghost use lib.ListN.{length, drop};
 ghost use Rattle.octets.specs.Lent.{isNot, over};
 ghost use Rattle.octets.specs.Same.{same};
 ghost use Rattle.aes.specs.KeyExpansion.{schedule};
-ghost use Rattle.keywrap.specs.Wrap.{startValue, joined, wrapped, unwrapped};
-ghost use Rattle.keywrap.specs.Calls.{wrapAnswer, unwrapAnswer};
+ghost use Rattle.keywrap.specs.Wrap.{startValue, registerBytes, wrapped, unwrapped};
+ghost use Rattle.keywrap.specs.Calls.{keySize, wrappedSize, wrapAnswer, unwrapAnswer};
+
+const KEY_SIZE: usize = 32;
+
+pub(crate) const WRAPPED_SIZE: usize = 40;
 
 // Tests of what is lent.
 
 fn wrong_key(kek: &[u8]) -> bool
-    ensures { λ r. ⌜ r ≡ isNot 32 (now (kek .entry)) ⌝ }
+    ensures { λ r. ⌜ r ≡ isNot keySize (now (kek .entry)) ⌝ }
 {
-    kek.len() != 32
+    kek.len() != KEY_SIZE
 }
 
 fn wrong_keys(kek: &[u8], key: &[u8]) -> bool
-    ensures { λ r. ⌜ r ≡ (isNot 32 (now (kek .entry)) || isNot 32 (now (key .entry))) ⌝ }
+    ensures { λ r. ⌜ r ≡ (isNot keySize (now (kek .entry)) || isNot keySize (now (key .entry))) ⌝ }
 {
     wrong_key(kek) | wrong_key(key)
 }
 
 fn wrong_wrapped(w: &[u8]) -> bool
-    ensures { λ r. ⌜ r ≡ isNot 40 (now (w .entry)) ⌝ }
+    ensures { λ r. ⌜ r ≡ isNot wrappedSize (now (w .entry)) ⌝ }
 {
-    w.len() != 40
+    w.len() != WRAPPED_SIZE
 }
 
 fn no_room_wrapped(out: &[u8]) -> bool
-    ensures { λ r. ⌜ r ≡ ltb (length (now (out .entry))) 40 ⌝ }
+    ensures { λ r. ⌜ r ≡ ltb (length (now (out .entry))) wrappedSize ⌝ }
 {
-    out.len() < 40
+    out.len() < WRAPPED_SIZE
 }
 
 fn no_room_key(out: &[u8]) -> bool
-    ensures { λ r. ⌜ r ≡ ltb (length (now (out .entry))) 32 ⌝ }
+    ensures { λ r. ⌜ r ≡ ltb (length (now (out .entry))) keySize ⌝ }
 {
-    out.len() < 32
+    out.len() < KEY_SIZE
 }
 
 // Whether A is another value than the initial one: all eight bytes are compared.
-fn wrong_start(a: [u8; 8]) -> bool
+fn wrong_start(a: Part) -> bool
     ensures { λ r. ⌜ r ≡ not (same a startValue) ⌝ }
 {
     let start = start_value();
@@ -63,24 +71,22 @@ fn wrong_start(a: [u8; 8]) -> bool
 
 // The schedule and the two ways, of lent bytes.
 
-fn schedule_of(kek: &[u8]) -> [[[u8; 4]; 4]; 15]
-    requires { ⌜ length (now kek) ≡ 32 ⌝ }
+fn schedule_of(kek: &[u8]) -> RoundKeys
+    requires { ⌜ length (now kek) ≡ keySize ⌝ }
     ensures { λ r. ⌜ r ≡ schedule (now (kek .entry)) ⌝ }
 {
-    let mut k = [0u8; 32];
-    put(&mut k, kek);
-    expand_key(k)
+    expand_key(first32(kek))
 }
 
 fn wrapped_of(kek: &[u8], key: &[u8]) -> [u8; 40]
-    requires { ⌜ (length (now kek) ≡ 32) × (length (now key) ≡ 32) ⌝ }
+    requires { ⌜ (length (now kek) ≡ keySize) × (length (now key) ≡ keySize) ⌝ }
     ensures { λ r. ⌜ r ≡ wrapped (now (kek .entry)) (now (key .entry)) ⌝ }
 {
     bytes_of(wrap_steps(schedule_of(kek), from_key(key)))
 }
 
-fn unwrapped_of(kek: &[u8], w: &[u8]) -> [[u8; 8]; 5]
-    requires { ⌜ (length (now kek) ≡ 32) × (length (now w) ≡ 40) ⌝ }
+fn unwrapped_of(kek: &[u8], w: &[u8]) -> Register
+    requires { ⌜ (length (now kek) ≡ keySize) × (length (now w) ≡ wrappedSize) ⌝ }
     ensures { λ r. ⌜ r ≡ unwrapped (now (kek .entry)) (now (w .entry)) ⌝ }
 {
     unwrap_steps(schedule_of(kek), from_wrapped(w))
@@ -95,8 +101,8 @@ fn give_wrapped(out: &mut [u8], s: [u8; 40]) -> u8
     0
 }
 
-fn give_key(out: &mut [u8], r: [[u8; 8]; 5]) -> u8
-    ensures { λ n. ⌜ (n ≡ 0) × (now (out .exit) ≡ over (joined (drop 1 r)) (now (out .entry))) ⌝ }
+fn give_key(out: &mut [u8], r: Register) -> u8
+    ensures { λ n. ⌜ (n ≡ 0) × (now (out .exit) ≡ over (registerBytes (drop 1 r)) (now (out .entry))) ⌝ }
 {
     let s = bytes_of(r);
     put(out, &s[8..]);

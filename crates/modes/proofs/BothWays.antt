@@ -15,8 +15,8 @@ use Rattle.octets.proofs.Same.{same-equal, same-refl}
 use Rattle.octets.proofs.Lent.{over-injective, one-answer}
 use Rattle.octets.proofs.Unique.{unique}
 use Rattle.modes.specs.Mode.{Mode}
-use Rattle.modes.specs.Calls.{tagTests, encryptAnswer, decryptAnswer}
-use Rattle.modes.specs.Laws.{Keyed, EncryptsTo, InRange, DecryptsTo, DecryptsExactly, OnePlaintext, ElseNine, SealedLength, EncryptsInRange, Lawful}
+use Rattle.modes.specs.Calls.{authenticTests, encryptAnswer, decryptAnswer}
+use Rattle.modes.specs.Laws.{Keyed, EncryptsTo, DecryptInRange, DecryptsTo, DecryptsExactly, AtMostOnePlaintext, DecryptElseNine, SealedLength, EncryptsInRange, Lawful}
 use Rattle.modes.proofs.Numbers.{wrongSizes-right, arguments-pass, encrypt-done, opened-wrong, opened-right, decrypt-in-range}
 
 -- how a mode's two directions fit: for every key and IV, and every text of a length that it permits, the plaintext undoes the ciphertext and back,
@@ -56,8 +56,8 @@ module _ (m : Mode) (fit : Fitting m) where
   permits-size : (s t : List ℕ) → length s ≡ length t → m .permits (length t) ≡ true → m .permits (length s) ≡ true
   permits-size s t e h = ap (m .permits) e ∙ h
 
-  module _ (key iv a b c t out : List ℕ) (inside : InRange m key iv a b c t out) where
-    decided : decryptAnswer m key iv a b c t out ≡ answer (lowest (tagTests (m .authentic key iv (a ++ b) c t))) (m .plaintext key iv c) out
+  module _ (key iv a b c t out : List ℕ) (inside : DecryptInRange m key iv a b c t out) where
+    decided : decryptAnswer m key iv a b c t out ≡ answer (lowest (authenticTests (m .authentic key iv (a ++ b) c t))) (m .plaintext key iv c) out
     decided =
         decrypt-in-range m key iv a b c t out (inside .keyed .key-size) (inside .keyed .iv-size) (inside .permitted) (inside .tag-size)
         (inside .data-fits) (inside .text-fits) (inside .room)
@@ -115,14 +115,14 @@ module _ (m : Mode) (fit : Fitting m) where
   decrypts-exactly : DecryptsExactly m
   decrypts-exactly key iv a b c t out p inside = (forth key iv a b c t out inside p, back key iv a b c t out inside p)
 
-  one-plaintext : OnePlaintext m
+  one-plaintext : AtMostOnePlaintext m
   one-plaintext key iv a p p′ c t keyed e e′ =
       sym (fit .opens key iv p keyed (e .permitted) (e .bytes))
       ∙ ap (m .plaintext key iv)
       (append-apart _ _ _ _ (fit .tag-length key iv a p keyed (e .permitted) ∙ sym (fit .tag-length key iv a p′ keyed (e′ .permitted))) (e .makes ∙ sym (e′ .makes)) .0)
       ∙ fit .opens key iv p′ keyed (e′ .permitted) (e′ .bytes)
 
-  else-nine : ElseNine m
+  else-nine : DecryptElseNine m
   else-nine key iv a b c t out inside none = go (m .authentic key iv (a ++ b) c t) refl
     where
       go : (r : Bool) → m .authentic key iv (a ++ b) c t ≡ r → decryptAnswer m key iv a b c t out ≡ (9, out)

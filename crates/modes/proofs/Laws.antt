@@ -10,7 +10,7 @@ use Rattle.modes.specs.Mode.{Mode}
 use Rattle.modes.specs.Ccm.{ccm}
 use Rattle.modes.specs.Gcm.{lengthsBlock, gcm}
 use Rattle.modes.specs.Modes.{modeOf}
-use Rattle.modes.specs.Laws.{CounterTwice, CounterTestsRise, ArgumentTestsRise, TagTestsRise, Lawful, ModesLawful, ModesPermit}
+use Rattle.modes.specs.Laws.{CounterTwice, CounterTestsRise, ArgumentTestsRise, AuthenticTestsRise, Lawful, ModesLawful, ModesPermit}
 use Rattle.modes.proofs.Stream as stream
 use Rattle.modes.proofs.Named.{each-mode}
 use Rattle.modes.proofs.BothWays.{Fitting, fitting-lawful}
@@ -26,7 +26,7 @@ counter-tests-rise w i n = refl
 pub argument-tests-rise : ArgumentTestsRise
 argument-tests-rise wrong a b s needed room = refl
 
-pub tag-tests-rise : TagTestsRise
+pub tag-tests-rise : AuthenticTestsRise
 tag-tests-rise right = refl
 
 -- ---- the modes

@@ -1,15 +1,13 @@
-mod Written
 pub mod Limits
 pub mod Stream
-mod Grouped
-mod Beside
-pub mod Formatted
-pub mod Opened
+mod Pads
+pub mod CcmFormat
+pub mod CcmOpened
 pub mod Numbers
 pub mod Named
 pub mod BothWays
 pub mod CcmLaws
-pub mod Counted
-pub mod Tagged
+pub mod Gctr
+pub mod GcmTagged
 pub mod GcmLaws
 pub mod Laws

@@ -3,13 +3,13 @@
 use mathlib.Core.Path.{_≡_, refl, sym, ap, _∙_}
 use mathlib.Core.Bool.{Bool, true, false, _||_}
 use mathlib.Core.List.{List, _++_}
-use Prim.Native.Nat.{ℕ, _+_, _≤_}
+use Prim.Native.Nat.{ℕ, _+_}
 use borrow.Author.Tests.{eq-eqb, ne-eqb}
 use lib.Dec.{eqb}
 use lib.ListN.{length}
 use Rattle.octets.specs.Lent.{when, isNot, lowest, answer}
 use Rattle.octets.proofs.Tests.{or-left, or-right}
-use Rattle.octets.proofs.Lent.{isNot-false}
+use Rattle.octets.proofs.Lent.{isNot-false, first-right, second-right}
 use Rattle.aes.specs.State.{State}
 use Rattle.aes.specs.Cipher.{cipher}
 use Rattle.aes.specs.KeyExpansion.{schedule}
@@ -17,7 +17,7 @@ use Rattle.modes.specs.Mode.{Mode, sealed}
 use Rattle.modes.specs.Ccm as c
 use Rattle.modes.specs.Gcm as g
 use Rattle.modes.specs.Modes.{modeOf}
-use Rattle.modes.specs.Calls.{dataMax, textMax, wrongSizes, argumentTests, tagTests, encryptTests}
+use Rattle.modes.specs.Calls.{Sealable, Openable, wrongSizes, argumentTests, authenticTests, encryptTests}
 use Rattle.modes.proofs.Numbers.{arguments-passed}
 
 pub each-mode : (Holds : Mode → Type 0) → Holds g.gcm → Holds c.ccm → (u : ℕ) → Holds (modeOf u)
@@ -44,22 +44,22 @@ module _ (u : ℕ) where
     sizes = named-sizes key iv s ∙ right
 
     pub named-key : length key ≡ 32
-    named-key = isNot-false 32 key (or-left (isNot 32 key) (isNot 12 iv) sizes)
+    named-key = first-right 32 12 key iv sizes
 
     pub named-iv : length iv ≡ 12
-    named-iv = isNot-false 12 iv (or-right (isNot 32 key) (isNot 12 iv) sizes)
+    named-iv = second-right 32 12 key iv sizes
 
   -- ---- what passing the tests of the arguments says
 
   module _ (key iv a b s : List ℕ) (room : ℕ) where
     pub encrypt-passed : lowest (encryptTests (modeOf u) key iv a b s room) ≡ 0
-        → (length key ≡ 32) × (length iv ≡ 12) × (length a + length b ≤ dataMax) × (length s ≤ textMax) × (length s + 16 ≤ room)
+        → Sealable key iv a b s room
     encrypt-passed none =
         let passed = arguments-passed (wrongSizes (modeOf u) key iv s) a b s (length s + modeOf u .tagSize) room none in
         (named-key key iv s (passed .sizes), named-iv key iv s (passed .sizes), passed .data-fits, passed .text-fits, rw (named-tagSize) (passed .room-fits))
 
     pub decrypt-passed : (t : List ℕ) → lowest (argumentTests (wrongSizes (modeOf u) key iv s || isNot (modeOf u .tagSize) t) a b s (length s) room) ≡ 0
-        → (length key ≡ 32) × (length iv ≡ 12) × (length a + length b ≤ dataMax) × (length s ≤ textMax) × (length t ≡ 16) × (length s ≤ room)
+        → Openable key iv a b s t room
     decrypt-passed t none =
         let passed = arguments-passed (wrongSizes (modeOf u) key iv s || isNot (modeOf u .tagSize) t) a b s (length s) room none in
         let sizes = or-left (wrongSizes (modeOf u) key iv s) (isNot (modeOf u .tagSize) t) (passed .sizes) in
@@ -72,18 +72,18 @@ module _ (u : ℕ) where
     keys : ks ≡ schedule key
     keys = made ∙ ap schedule copied
 
-    pub gcm-sealed : {x : ℕ × List ℕ} → u ≡ 2 → answer 0 (g.text (cipher ks) iv s ++ g.tagOf (cipher ks) iv a (g.text (cipher ks) iv s)) out ≡ x
+    pub gcm-sealed : {x : ℕ × List ℕ} → u ≡ 2 → answer 0 (g.gcmText (cipher ks) iv s ++ g.gcmTag (cipher ks) iv a (g.gcmText (cipher ks) iv s)) out ≡ x
         → answer 0 (sealed (modeOf u) key iv a s) out ≡ x
     gcm-sealed e h = rw (eq-eqb u 2 e) (rw keys at h)
 
-    pub ccm-sealed : {x : ℕ × List ℕ} → (u ≡ 2 → ⊥) → answer 0 (c.text (cipher ks) iv s ++ c.tagOf (cipher ks) iv a s) out ≡ x → answer 0 (sealed (modeOf u) key iv a s) out ≡ x
+    pub ccm-sealed : {x : ℕ × List ℕ} → (u ≡ 2 → ⊥) → answer 0 (c.ccmText (cipher ks) iv s ++ c.ccmTag (cipher ks) iv a s) out ≡ x → answer 0 (sealed (modeOf u) key iv a s) out ≡ x
     ccm-sealed e h = rw (ne-eqb u 2 e) (rw keys at h)
 
     module _ (t : List ℕ) where
-      pub gcm-opened : {x : ℕ × List ℕ} → u ≡ 2 → answer (lowest (tagTests (g.tagRight (cipher ks) iv a s t))) (g.text (cipher ks) iv s) out ≡ x
-          → answer (lowest (tagTests (modeOf u .authentic key iv a s t))) (modeOf u .plaintext key iv s) out ≡ x
+      pub gcm-opened : {x : ℕ × List ℕ} → u ≡ 2 → answer (lowest (authenticTests (g.gcmTagRight (cipher ks) iv a s t))) (g.gcmText (cipher ks) iv s) out ≡ x
+          → answer (lowest (authenticTests (modeOf u .authentic key iv a s t))) (modeOf u .plaintext key iv s) out ≡ x
       gcm-opened e h = rw (eq-eqb u 2 e) (rw keys at h)
 
-      pub ccm-opened : {x : ℕ × List ℕ} → (u ≡ 2 → ⊥) → answer (lowest (tagTests (c.tagRight (cipher ks) iv a s t))) (c.text (cipher ks) iv s) out ≡ x
-          → answer (lowest (tagTests (modeOf u .authentic key iv a s t))) (modeOf u .plaintext key iv s) out ≡ x
+      pub ccm-opened : {x : ℕ × List ℕ} → (u ≡ 2 → ⊥) → answer (lowest (authenticTests (c.ccmTagRight (cipher ks) iv a s t))) (c.ccmText (cipher ks) iv s) out ≡ x
+          → answer (lowest (authenticTests (modeOf u .authentic key iv a s t))) (modeOf u .plaintext key iv s) out ≡ x
       ccm-opened e h = rw (ne-eqb u 2 e) (rw keys at h)

@@ -1,35 +1,19 @@
 -- The numbers of a mode called by itself, for any mode: what the arguments alone decide, what passing their tests says of the lengths, and the answer then.
 -- Assumes nothing.
 use mathlib.Core.Path.{_≡_, refl, sym, ap, ap₂, _∙_}
-use mathlib.Core.Bool.{Bool, true, false, not, _||_}
-use mathlib.Core.List.{List, [], _∷_, _++_}
+use mathlib.Core.Bool.{Bool, true, false, _||_}
+use mathlib.Core.List.{List, _++_}
 use Prim.Native.Nat.{ℕ, _+_, _≤_}
 use native.Mathlib.Nat.{add-zero}
 use borrow.Author.Tests.{ltb-false, eq-eqb, ne-eqb, le-ltb}
-use lib.Dec.{eqb, ltb}
+use lib.Dec.{ltb}
 use lib.ListN.{length}
-use Rattle.octets.specs.Lent.{Tests, when, isNot, lowest, over, answer}
-use Rattle.octets.proofs.Tests.{or-left, or-right, and-right}
-use Rattle.octets.proofs.Lent.{isNot-right, answer-refused, none-applies, numbered}
+use Rattle.octets.specs.Lent.{isNot, lowest, over, answer}
+use Rattle.octets.proofs.Tests.{or-left, or-right}
+use Rattle.octets.proofs.Lent.{isNot-right, answer-refused, none-applies}
+use Rattle.octets.proofs.Lowest.{lowest-refused, lowest-passed}
 use Rattle.modes.specs.Mode.{Mode, sealed}
-use Rattle.modes.specs.Calls.{dataMax, textMax, wrongSizes, tooLong, argumentTests, tagTests, encryptTests, encryptNumber, encryptAnswer, decryptNumber, decryptAnswer}
-
--- ---- tests after others
-
-lowest-refused : (ns ts : Tests) → (lowest ns ≡ 0 → ⊥) → lowest (ns ++ ts) ≡ lowest ns
-lowest-refused [] ts some = absurd (some refl)
-lowest-refused (n ∷ ns) ts some = go (n .1) some (lowest-refused ns ts)
-  where
-    go : (t : Bool) → (when t (n .0) (lowest ns) ≡ 0 → ⊥) → ((lowest ns ≡ 0 → ⊥) → lowest (ns ++ ts) ≡ lowest ns)
-        → when t (n .0) (lowest (ns ++ ts)) ≡ when t (n .0) (lowest ns)
-    go true h later = refl
-    go false h later = later h
-
-lowest-passed : (ns ts : Tests) → numbered ns ≡ true → lowest ns ≡ 0 → lowest (ns ++ ts) ≡ lowest ts
-lowest-passed [] ts h none = refl
-lowest-passed (n ∷ ns) ts h none =
-    let first : n .1 ≡ false = none-applies (n ∷ ns) 0 h none in
-    rw first (lowest-passed ns ts (and-right (not (eqb (n .0) 0)) (numbered ns) h) (rw first at none))
+use Rattle.modes.specs.Calls.{dataMax, textMax, wrongSizes, tooLong, argumentTests, authenticTests, encryptTests, encryptNumber, encryptAnswer, decryptNumber, decryptAnswer}
 
 -- ---- a number that is handed on with the output after it
 
@@ -99,19 +83,19 @@ module _ (m : Mode) (key iv a b c t out : List ℕ) where
     unfolding decryptAnswer decryptNumber
     decrypt-refused some =
         answer-refusal (m .plaintext key iv c) out
-        (tested ∙ sym (lowest-refused (argumentTests wrong-any a b c (length c) (length out)) (tagTests (m .authentic key iv (a ++ b) c t)) (λ z. some (tested ∙ z)))) some
+        (tested ∙ sym (lowest-refused (argumentTests wrong-any a b c (length c) (length out)) (authenticTests (m .authentic key iv (a ++ b) c t)) refl (λ z. some (tested ∙ z)))) some
 
     -- the tag decides
-    pub decrypt-done : n ≡ 0 → decryptAnswer m key iv a b c t out ≡ answer (lowest (tagTests (m .authentic key iv (a ++ b) c t))) (m .plaintext key iv c) out
+    pub decrypt-done : n ≡ 0 → decryptAnswer m key iv a b c t out ≡ answer (lowest (authenticTests (m .authentic key iv (a ++ b) c t))) (m .plaintext key iv c) out
     unfolding decryptAnswer decryptNumber
     decrypt-done none =
         ap (λ (k : ℕ). answer k (m .plaintext key iv c) out)
-        (lowest-passed (argumentTests wrong-any a b c (length c) (length out)) (tagTests (m .authentic key iv (a ++ b) c t)) refl (sym tested ∙ none))
+        (lowest-passed (argumentTests wrong-any a b c (length c) (length out)) (authenticTests (m .authentic key iv (a ++ b) c t)) refl (sym tested ∙ none))
 
   -- in range
   pub decrypt-in-range : length key ≡ m .keySize → length iv ≡ m .ivSize → m .permits (length c) ≡ true → length t ≡ m .tagSize
       → length a + length b ≤ dataMax → length c ≤ textMax → length c ≤ length out
-      → decryptAnswer m key iv a b c t out ≡ answer (lowest (tagTests (m .authentic key iv (a ++ b) c t))) (m .plaintext key iv c) out
+      → decryptAnswer m key iv a b c t out ≡ answer (lowest (authenticTests (m .authentic key iv (a ++ b) c t))) (m .plaintext key iv c) out
   decrypt-in-range key-size iv-size permitted tag-size data-short text-short fits =
       decrypt-done (sym (arguments-pass wrong-any a b c (length c) (length out) right data-short text-short fits)) refl
     where
@@ -121,8 +105,8 @@ module _ (m : Mode) (key iv a b c t out : List ℕ) where
 -- ---- 9, or 0 with the plaintext
 
 module _ (right : Bool) (s out : List ℕ) where
-  pub opened-wrong : right ≡ false → answer (lowest (tagTests right)) s out ≡ (9, out)
+  pub opened-wrong : right ≡ false → answer (lowest (authenticTests right)) s out ≡ (9, out)
   opened-wrong e = rw e
 
-  pub opened-right : right ≡ true → answer (lowest (tagTests right)) s out ≡ (0, over s out)
+  pub opened-right : right ≡ true → answer (lowest (authenticTests right)) s out ≡ (0, over s out)
   opened-right e = rw e

@@ -18,13 +18,19 @@ use Rattle.octets.proofs.Bytes.{bytes-nil, bytes-append}
 use Rattle.octets.proofs.BigEndian.{bytes-be}
 use Rattle.octets.proofs.Xor.{length-xors, xors-cancel, xors-append, bytes-xors}
 use Rattle.octets.proofs.Lent.{over-fits}
+use Rattle.octets.proofs.Written.{drop-part, part-length, back-take, back-drop, back-length}
 use Rattle.modes.specs.Counter.{stream, counterBlock, ctr}
 use Rattle.modes.specs.Laws.{CounterTwice}
-use Rattle.modes.proofs.Written.{drop-part, part-length, back-take, back-drop, back-length}
 
 pub ctr-nil : (f : List ℕ → List ℕ) (w : ℕ) (front : List ℕ) (i : ℕ) → ctr f w front i [] ≡ []
 unfolding ctr
 ctr-nil f w front i = refl
+
+-- nothing is left
+pub none-written : (f : List ℕ → List ℕ) (w : ℕ) (front : List ℕ) (i : ℕ) (s out : List ℕ) → length s ≡ 0 → length out ≡ length s → out ≡ ctr f w front i s
+none-written f w front i [] [] h e = sym (ctr-nil f w front i)
+none-written f w front i [] (y ∷ out) h e = absurd (omega arith)
+none-written f w front i (x ∷ s) out h e = absurd (omega arith)
 
 module _ (f : List ℕ → List ℕ) (size : (x : List ℕ) → length (f x) ≡ 16) where
   pub length-stream : (bs : List (List ℕ)) → length (stream f bs) ≡ 16 * length bs

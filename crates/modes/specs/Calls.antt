@@ -1,6 +1,7 @@
 -- A mode called by itself (document 01, "Ciphers" and "Maxima"): the numbers, and the output after them. The associated data comes in two parts, a and then b.
 -- Assumes nothing.
-use Prim.Native.Nat.{ℕ, _+_}
+use mathlib.Core.Path.{_≡_}
+use Prim.Native.Nat.{ℕ, _+_, _≤_}
 use mathlib.Core.Bool.{Bool, not, _||_}
 use mathlib.Core.List.{List, [], _∷_, _++_}
 use lib.Dec.{ltb}
@@ -27,8 +28,20 @@ abbrev pub argumentTests : Bool → List ℕ → List ℕ → List ℕ → ℕ �
 argumentTests wrong a b s needed room = (2, wrong) ∷ (4, tooLong a b s) ∷ (5, ltb room needed) ∷ []
 
 -- the test of the tag: `right` where it is authentic
-abbrev pub tagTests : Bool → Tests
-tagTests right = (9, not right) ∷ []
+abbrev pub authenticTests : Bool → Tests
+authenticTests right = (9, not right) ∷ []
+
+-- the number that the tag alone decides, and the output after it: s where it is authentic
+abbrev pub openedAnswer : Bool → List ℕ → List ℕ → ℕ × List ℕ
+openedAnswer right s out = answer (lowest (authenticTests right)) s out
+
+-- lengths that pass the tests of the arguments, in each direction: a key of 32 bytes, an IV of 12 and a tag of 16, the maxima, and room
+abbrev pub Sealable : List ℕ → List ℕ → List ℕ → List ℕ → List ℕ → ℕ → Type 0
+Sealable key iv a b p room = (length key ≡ 32) × (length iv ≡ 12) × (length a + length b ≤ dataMax) × (length p ≤ textMax) × (length p + 16 ≤ room)
+
+abbrev pub Openable : List ℕ → List ℕ → List ℕ → List ℕ → List ℕ → List ℕ → ℕ → Type 0
+Openable key iv a b c t room =
+    (length key ≡ 32) × (length iv ≡ 12) × (length a + length b ≤ dataMax) × (length c ≤ textMax) × (length t ≡ 16) × (length c ≤ room)
 
 -- ---- encryption
 
@@ -46,7 +59,11 @@ encryptAnswer m key iv a b p out = answer (encryptNumber m key iv a b p (length 
 abbrev pub decryptTests : Mode → List ℕ → List ℕ → List ℕ → List ℕ → List ℕ → List ℕ → ℕ → Tests
 decryptTests m key iv a b c t room =
     argumentTests (wrongSizes m key iv c || isNot (m .tagSize) t) a b c (length c) room
-    ++ tagTests (m .authentic key iv (a ++ b) c t)
+    ++ authenticTests (m .authentic key iv (a ++ b) c t)
+
+-- what the tag decides, once the tests of the arguments are passed
+abbrev pub decryptOpened : Mode → List ℕ → List ℕ → List ℕ → List ℕ → List ℕ → List ℕ → ℕ × List ℕ
+decryptOpened m key iv a c t out = openedAnswer (m .authentic key iv a c t) (m .plaintext key iv c) out
 
 unfoldable pub decryptNumber : Mode → List ℕ → List ℕ → List ℕ → List ℕ → List ℕ → List ℕ → ℕ → ℕ
 decryptNumber m key iv a b c t room = lowest (decryptTests m key iv a b c t room)

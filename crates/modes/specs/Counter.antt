@@ -4,7 +4,7 @@ use Prim.Native.Nat.{ℕ, _+_, _-_, _^_}
 use mathlib.Core.Bool.{Bool, not}
 use mathlib.Core.List.{List, [], _∷_, _++_}
 use lib.Dec.{leb}
-use lib.ListN.{length, take}
+use lib.ListN.{length, take, drop}
 use Rattle.octets.specs.Values.{values}
 use Rattle.octets.specs.BigEndian.{be}
 use Rattle.octets.specs.Xor.{xors}
@@ -22,6 +22,10 @@ counterBlock w front i = front ++ be w i
 -- the string s added to the stream from counter i on
 unfoldable pub ctr : (List ℕ → List ℕ) → ℕ → List ℕ → ℕ → List ℕ → List ℕ
 ctr f w front i s = xors s (stream f (values (counterBlock w front) i (blocks (length s))))
+
+-- the block at place `at` of s, added to its pad, in that place of d
+abbrev pub withPad : List ℕ → ℕ → List ℕ → List ℕ → List ℕ
+withPad s at pad d = take at d ++ (xors (take 16 (drop at s)) pad ++ drop 16 (drop at d))
 
 -- document 01: 11 where the counter field would run over
 abbrev pub counterFits : ℕ → ℕ → ℕ → Bool

@@ -13,7 +13,7 @@ use Rattle.octets.specs.Unique.{Unique}
 use Rattle.modes.specs.Mode.{Mode, sealed}
 use Rattle.modes.specs.Modes.{modeOf}
 use Rattle.modes.specs.Counter.{ctr, counterTests}
-use Rattle.modes.specs.Calls.{dataMax, textMax, argumentTests, tagTests, encryptTests, encryptAnswer, decryptTests, decryptAnswer}
+use Rattle.modes.specs.Calls.{dataMax, textMax, argumentTests, authenticTests, encryptTests, encryptAnswer, decryptTests, decryptAnswer}
 
 -- counter mode twice gives the string back, whatever the cipher, where each of its blocks has 16 bytes
 abbrev pub CounterTwice : Type 0
@@ -26,8 +26,8 @@ CounterTestsRise = (w i n : ℕ) → rises (counterTests w i n) ≡ true
 abbrev pub ArgumentTestsRise : Type 0
 ArgumentTestsRise = (wrong : Bool) (a b s : List ℕ) (needed room : ℕ) → rises (argumentTests wrong a b s needed room) ≡ true
 
-abbrev pub TagTestsRise : Type 0
-TagTestsRise = (right : Bool) → rises (tagTests right) ≡ true
+abbrev pub AuthenticTestsRise : Type 0
+AuthenticTestsRise = (right : Bool) → rises (authenticTests right) ≡ true
 
 module _ (m : Mode) where
   -- a key and an IV of the mode
@@ -44,7 +44,7 @@ module _ (m : Mode) where
     pub makes : sealed m key iv a p ≡ c ++ t
 
   -- the lengths that document 01 permits, and room for the plaintext
-  pub record InRange (key iv a b c t out : List ℕ) : Type 0 where
+  pub record DecryptInRange (key iv a b c t out : List ℕ) : Type 0 where
     pub keyed : Keyed key iv
     pub tag-size : length t ≡ m .tagSize
     pub text-bytes : Bytes c
@@ -61,17 +61,17 @@ module _ (m : Mode) where
   -- exactly when encrypting p gives c and then t
   abbrev pub DecryptsExactly : Type 0
   DecryptsExactly =
-      (key iv a b c t out p : List ℕ) → InRange key iv a b c t out
+      (key iv a b c t out p : List ℕ) → DecryptInRange key iv a b c t out
       → DecryptsTo key iv a b c t out p ↔ EncryptsTo key iv (a ++ b) p c t
 
   -- at most one p does, stated over encryption alone
-  abbrev pub OnePlaintext : Type 0
-  OnePlaintext = (key iv a p p′ c t : List ℕ) → Keyed key iv → EncryptsTo key iv a p c t → EncryptsTo key iv a p′ c t → p ≡ p′
+  abbrev pub AtMostOnePlaintext : Type 0
+  AtMostOnePlaintext = (key iv a p p′ c t : List ℕ) → Keyed key iv → EncryptsTo key iv a p c t → EncryptsTo key iv a p′ c t → p ≡ p′
 
   -- where none does, the answer is 9 and the output as it was
-  abbrev pub ElseNine : Type 0
-  ElseNine =
-      (key iv a b c t out : List ℕ) → InRange key iv a b c t out
+  abbrev pub DecryptElseNine : Type 0
+  DecryptElseNine =
+      (key iv a b c t out : List ℕ) → DecryptInRange key iv a b c t out
       → ((p : List ℕ) → EncryptsTo key iv (a ++ b) p c t → ⊥) → decryptAnswer m key iv a b c t out ≡ (9, out)
 
   -- what encryption makes is as long as the plaintext and the tag
@@ -101,8 +101,8 @@ module _ (m : Mode) where
 -- all of these of a mode
 pub record Lawful (m : Mode) : Type 0 where
   pub decrypts-exactly : DecryptsExactly m
-  pub one-plaintext : OnePlaintext m
-  pub else-nine : ElseNine m
+  pub one-plaintext : AtMostOnePlaintext m
+  pub else-nine : DecryptElseNine m
   pub sealed-length : SealedLength m
   pub encrypts-in-range : EncryptsInRange m
   pub encrypt-unique : EncryptUnique m

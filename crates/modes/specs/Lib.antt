@@ -1,6 +1,7 @@
 pub mod Mode
 pub mod Counter
 pub mod Pads
+pub mod Within
 pub mod Ccm
 pub mod Gcm
 pub mod Modes

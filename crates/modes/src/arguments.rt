@@ -1,5 +1,8 @@
 // The numbers that the arguments alone decide, in any mode and in both directions: 2, 4 and 5.
 use crate::iv_size;
+use crate::sizes::DATA_MAX;
+use crate::sizes::KEY_SIZE;
+use crate::sizes::TEXT_MAX;
 ghost use mathlib.Core.Path.{_≡_};
 ghost use mathlib.Core.List.{List};
 ghost use Prim.Native.Nat.{ℕ, _+_, _≤_};
@@ -12,20 +15,20 @@ ghost use Rattle.modes.specs.Calls.{wrongSizes, tooLong, argumentTests};
 pub(crate) fn wrong_sizes(u: u8, key: &[u8], iv: &[u8]) -> bool
     ensures { λ r. ⌜ ((s : List ℕ) → r ≡ wrongSizes (modeOf u) (now (key .entry)) (now (iv .entry)) s) ⌝ }
 {
-    (key.len() != 32) | (iv.len() != iv_size(u))
+    (key.len() != KEY_SIZE) | (iv.len() != iv_size(u))
 }
 
 // Whether a maximum is passed: the two parts of the associated data together, or the text. No sum can wrap.
 fn too_long(a: &[u8], b: &[u8], text: &[u8]) -> bool
     ensures { λ r. ⌜ r ≡ tooLong (now (a .entry)) (now (b .entry)) (now (text .entry)) ⌝ }
 {
-    if 4152 < a.len() {
+    if DATA_MAX < a.len() {
         return true;
     }
-    if 4152 - a.len() < b.len() {
+    if DATA_MAX - a.len() < b.len() {
         return true;
     }
-    1048576 < text.len()
+    TEXT_MAX < text.len()
 }
 
 // The first that applies, or 0: `wrong` where a length is none of the mode's, `more` the bytes that the result has beside the text's, `room` the output's length.

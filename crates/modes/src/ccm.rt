@@ -4,10 +4,13 @@ use crate::counter::counter_block;
 use crate::passes::chain_opened;
 use crate::passes::seal_text;
 use crate::tag::tag_number;
+use aes::RoundKeys;
+use aes_fast::Tables;
 use aes_fast::encrypt;
 use cbc_mac::absorb;
 use cbc_mac::close;
 use octets::big_endian::bytes16;
+use octets::strings::Block;
 use octets::strings::put;
 use octets::strings::xor_blocks;
 ghost use mathlib.Core.Path.{_≡_};
@@ -17,13 +20,14 @@ ghost use Prim.Native.Nat.{_+_, _≤_};
 ghost use lib.ListN.{length, drop};
 ghost use Rattle.octets.specs.BigEndian.{be};
 ghost use Rattle.octets.specs.Blocks.{cut, chain};
-ghost use Rattle.octets.specs.Lent.{lowest, answer};
+ghost use Rattle.octets.specs.Lent.{answer};
 ghost use Rattle.octets.specs.Xor.{xors};
 ghost use Rattle.aes.specs.Cipher.{cipher};
 ghost use Rattle.aes_fast.specs.Right.{Ready};
-ghost use Rattle.modes.specs.Calls.{tagTests};
-ghost use Rattle.modes.specs.Counter.{counterBlock, ctr, frontOf};
-ghost use Rattle.modes.specs.Ccm.{flags, firstBlock, dataBlocks, front, text, tagOf, tagRight};
+ghost use Rattle.modes.specs.Calls.{dataMax};
+ghost use Rattle.modes.specs.Within.{SealsWith, OpensWith};
+ghost use Rattle.modes.specs.Counter.{counterBlock, frontOf};
+ghost use Rattle.modes.specs.Ccm.{flags, dataBlocks, chainStart, counterFront, ccmSealed, ccmOpened};
 
 // The flags of the first block: 7Ah with associated data, 3Ah without.
 fn flags_of(with_data: bool) -> u8
@@ -33,9 +37,9 @@ fn flags_of(with_data: bool) -> u8
 }
 
 // The counter blocks' front, with a field of zeros.
-fn base_of(iv: &[u8]) -> [u8; 16]
+fn base_of(iv: &[u8]) -> Block
     requires { ⌜ length (now iv) ≡ 12 ⌝ }
-    ensures { λ r. ⌜ r ≡ front (now (iv .entry)) ++ be 3 0 ⌝ }
+    ensures { λ r. ⌜ r ≡ counterFront (now (iv .entry)) ++ be 3 0 ⌝ }
 {
     let start = 1;
     let mut b = [0u8; 16];
@@ -45,7 +49,7 @@ fn base_of(iv: &[u8]) -> [u8; 16]
 }
 
 // B0: the flags, the nonce, and the length of the payload in three bytes, where counter blocks have the counter.
-fn first_block(base: [u8; 16], with_data: bool, n: usize) -> [u8; 16]
+fn first_block(base: Block, with_data: bool, n: usize) -> Block
     ensures { λ r. ⌜ r ≡ flags with_data ∷ (drop 1 (frontOf false base) ++ be 3 n) ⌝ }
 {
     let mut b = counter_block(base, false, n);
@@ -54,14 +58,8 @@ fn first_block(base: [u8; 16], with_data: bool, n: usize) -> [u8; 16]
 }
 
 // The chain after the associated data, which is a and then b.
-fn chain_data(
-    t: &[[u32; 256]; 4],
-    ks: &[[[u8; 4]; 4]; 15],
-    y: [u8; 16],
-    a: &[u8],
-    b: &[u8],
-) -> [u8; 16]
-    requires { ⌜ Ready (now t) (now ks) × (length (now a) + length (now b) ≤ 4152) ⌝ }
+fn chain_data(t: &Tables, ks: &RoundKeys, y: Block, a: &[u8], b: &[u8]) -> Block
+    requires { ⌜ Ready (now t) (now ks) × (length (now a) + length (now b) ≤ dataMax) ⌝ }
     ensures { λ r. ⌜ r ≡ chain (cipher (now (ks .entry))) y (dataBlocks (now (a .entry) ++ now (b .entry))) ⌝ }
 {
     let n = a.len() + b.len();
@@ -76,16 +74,9 @@ fn chain_data(
 }
 
 // The chain up to the payload, of n bytes.
-fn chain_start(
-    t: &[[u32; 256]; 4],
-    ks: &[[[u8; 4]; 4]; 15],
-    base: [u8; 16],
-    a: &[u8],
-    b: &[u8],
-    n: usize,
-) -> [u8; 16]
-    requires { ⌜ Ready (now t) (now ks) × (length (now a) + length (now b) ≤ 4152) ⌝ }
-    ensures { λ r. ⌜ r ≡ chain (cipher (now (ks .entry))) (cipher (now (ks .entry)) (firstBlock (drop 1 (frontOf false base)) (now (a .entry) ++ now (b .entry)) n)) (dataBlocks (now (a .entry) ++ now (b .entry))) ⌝ }
+fn chain_start(t: &Tables, ks: &RoundKeys, base: Block, a: &[u8], b: &[u8], n: usize) -> Block
+    requires { ⌜ Ready (now t) (now ks) × (length (now a) + length (now b) ≤ dataMax) ⌝ }
+    ensures { λ r. ⌜ r ≡ chainStart (cipher (now (ks .entry))) (drop 1 (frontOf false base)) (now (a .entry) ++ now (b .entry)) n ⌝ }
 {
     let with_data = a.len() + b.len() != 0;
     let first = encrypt(t, ks, first_block(base, with_data, n));
@@ -93,7 +84,7 @@ fn chain_start(
 }
 
 // The chain's last state with S0.
-fn tag_from(t: &[[u32; 256]; 4], ks: &[[[u8; 4]; 4]; 15], base: [u8; 16], y: [u8; 16]) -> [u8; 16]
+fn tag_from(t: &Tables, ks: &RoundKeys, base: Block, y: Block) -> Block
     requires { ⌜ Ready (now t) (now ks) ⌝ }
     ensures { λ r. ⌜ r ≡ xors y (cipher (now (ks .entry)) (counterBlock 3 (frontOf false base) 0)) ⌝ }
 {
@@ -101,16 +92,16 @@ fn tag_from(t: &[[u32; 256]; 4], ks: &[[[u8; 4]; 4]; 15], base: [u8; 16], y: [u8
 }
 
 pub(crate) fn seal(
-    t: &[[u32; 256]; 4],
-    ks: &[[[u8; 4]; 4]; 15],
+    t: &Tables,
+    ks: &RoundKeys,
     iv: &[u8],
     a: &[u8],
     b: &[u8],
     p: &[u8],
     out: &mut [u8],
 ) -> u8
-    requires { ⌜ Ready (now t) (now ks) × (length (now iv) ≡ 12) × (length (now a) + length (now b) ≤ 4152) × (length (now p) ≤ 1048576) × (length (now p) + 16 ≤ length (now out)) ⌝ }
-    ensures { λ r. ⌜ answer 0 (text (cipher (now (ks .entry))) (now (iv .entry)) (now (p .entry)) ++ tagOf (cipher (now (ks .entry))) (now (iv .entry)) (now (a .entry) ++ now (b .entry)) (now (p .entry))) (now (out .entry)) ≡ (r, now (out .exit)) ⌝ }
+    requires { ⌜ SealsWith (now t) (now ks) (now iv) (now a) (now b) (now p) (length (now out)) ⌝ }
+    ensures { λ r. ⌜ answer 0 (ccmSealed (cipher (now (ks .entry))) (now (iv .entry)) (now (a .entry) ++ now (b .entry)) (now (p .entry))) (now (out .entry)) ≡ (r, now (out .exit)) ⌝ }
 {
     let n = p.len();
     let base = base_of(iv);
@@ -123,8 +114,8 @@ pub(crate) fn seal(
 
 // 9, or 0 with the plaintext. The chain is lent no output: a plaintext that is not authentic has nowhere to go.
 pub(crate) fn open(
-    t: &[[u32; 256]; 4],
-    ks: &[[[u8; 4]; 4]; 15],
+    t: &Tables,
+    ks: &RoundKeys,
     iv: &[u8],
     a: &[u8],
     b: &[u8],
@@ -132,8 +123,8 @@ pub(crate) fn open(
     tag: &[u8],
     out: &mut [u8],
 ) -> u8
-    requires { ⌜ Ready (now t) (now ks) × (length (now iv) ≡ 12) × (length (now a) + length (now b) ≤ 4152) × (length (now c) ≤ 1048576) × (length (now tag) ≡ 16) × (length (now c) ≤ length (now out)) ⌝ }
-    ensures { λ r. ⌜ answer (lowest (tagTests (tagRight (cipher (now (ks .entry))) (now (iv .entry)) (now (a .entry) ++ now (b .entry)) (now (c .entry)) (now (tag .entry))))) (text (cipher (now (ks .entry))) (now (iv .entry)) (now (c .entry))) (now (out .entry)) ≡ (r, now (out .exit)) ⌝ }
+    requires { ⌜ OpensWith (now t) (now ks) (now iv) (now a) (now b) (now c) (now tag) (length (now out)) ⌝ }
+    ensures { λ r. ⌜ ccmOpened (cipher (now (ks .entry))) (now (iv .entry)) (now (a .entry) ++ now (b .entry)) (now (c .entry)) (now (tag .entry)) (now (out .entry)) ≡ (r, now (out .exit)) ⌝ }
 {
     let base = base_of(iv);
     let y = chain_start(t, ks, base, a, b, c.len());

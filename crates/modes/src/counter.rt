@@ -1,4 +1,6 @@
 // Counter mode, which CCM and GCM share: the field of a counter block is four bytes where it is wide, and else three.
+use aes::RoundKeys;
+use aes_fast::Tables;
 use aes_fast::encrypt;
 use aes_fast::encrypt_two_from;
 use aes_fast::halves::Halves;
@@ -7,21 +9,21 @@ use aes_fast::halves::halves_at;
 use aes_fast::halves::put_halves;
 use aes_fast::start::Start;
 use aes_fast::start::start_of;
+use octets::strings::Block;
 use octets::strings::put;
 ghost use mathlib.Core.Path.{_≡_};
 ghost use mathlib.Core.Bool.{not};
-ghost use mathlib.Core.List.{_++_};
 ghost use Prim.Native.Nat.{_+_, _%_, _≤_, _<_, min};
-ghost use lib.ListN.{length, take, drop};
+ghost use lib.ListN.{length};
 ghost use Rattle.octets.specs.Blocks.{fill};
 ghost use Rattle.octets.specs.Xor.{xors};
 ghost use Rattle.aes.specs.Cipher.{cipher};
 ghost use Rattle.aes_fast.specs.Right.{Ready};
 ghost use Rattle.aes_fast.specs.Halves.{halvesBlock};
 ghost use Rattle.modes.specs.Pads.{Serves};
-ghost use Rattle.modes.specs.Counter.{counterBlock, ctr, counterFits, counterAnswer, width, frontOf};
+ghost use Rattle.modes.specs.Counter.{counterBlock, ctr, withPad, counterFits, counterAnswer, width, frontOf};
 
-pub(crate) fn counter_block(base: [u8; 16], wide: bool, i: usize) -> [u8; 16]
+pub(crate) fn counter_block(base: Block, wide: bool, i: usize) -> Block
     ensures { λ r. ⌜ r ≡ counterBlock (width wide) (frontOf wide base) i ⌝ }
 {
     let mut b = base;
@@ -35,6 +37,11 @@ pub(crate) fn counter_block(base: [u8; 16], wide: bool, i: usize) -> [u8; 16]
     b
 }
 
+// How many counters a field has, of four bytes and of three.
+const WIDE_LIMIT: usize = 4294967296;
+
+const NARROW_LIMIT: usize = 16777216;
+
 // Whether the counters from i on that n bytes take would run over the field.
 fn runs_over(wide: bool, i: usize, n: usize) -> bool
     requires { ⌜ i ≤ 2 ⌝ }
@@ -42,13 +49,13 @@ fn runs_over(wide: bool, i: usize, n: usize) -> bool
 {
     let last = i + (n / 16 + (n % 16 + 15) / 16);
     if wide {
-        return 4294967296 < last;
+        return WIDE_LIMIT < last;
     }
-    16777216 < last
+    NARROW_LIMIT < last
 }
 
 // A last part of a text, of 16 bytes or less, with its pad, and zeros after it.
-pub(crate) fn summed(text: &[u8], pad: [u8; 16]) -> [u8; 16]
+pub(crate) fn summed(text: &[u8], pad: Block) -> Block
     requires { ⌜ length (now text) ≤ 16 ⌝ }
     ensures { λ r. ⌜ r ≡ fill (xors (now (text .entry)) pad) ⌝ }
 {
@@ -64,7 +71,7 @@ pub(crate) fn summed(text: &[u8], pad: [u8; 16]) -> [u8; 16]
 // The block at place `at` of the text, with its pad, to the same place of the output.
 pub(crate) fn add_at(text: &[u8], at: usize, pad: Halves, out: &mut [u8])
     requires { ⌜ (at + 16 ≤ length (now text)) × (at + 16 ≤ length (now out)) ⌝ }
-    ensures { λ _. ⌜ now (out .exit) ≡ take at (now (out .entry)) ++ (xors (take 16 (drop at (now (text .entry)))) (halvesBlock pad) ++ drop 16 (drop at (now (out .entry)))) ⌝ }
+    ensures { λ _. ⌜ now (out .exit) ≡ withPad (now (text .entry)) at (halvesBlock pad) (now (out .entry)) ⌝ }
 {
     let block = halves_at(text, at);
     let sum = add_halves(block, pad);
@@ -72,13 +79,7 @@ pub(crate) fn add_at(text: &[u8], at: usize, pad: Halves, out: &mut [u8])
 }
 
 // What the counters share that differ from k in the last byte alone.
-pub(crate) fn start_at(
-    t: &[[u32; 256]; 4],
-    ks: &[[[u8; 4]; 4]; 15],
-    base: [u8; 16],
-    wide: bool,
-    k: usize,
-) -> Start
+pub(crate) fn start_at(t: &Tables, ks: &RoundKeys, base: Block, wide: bool, k: usize) -> Start
     requires { ⌜ Ready (now t) (now ks) ⌝ }
     ensures { λ r. ⌜ Serves (now (t .entry)) (now (ks .entry)) (width wide) (frontOf wide base) r k ⌝ }
 {
@@ -87,9 +88,9 @@ pub(crate) fn start_at(
 
 // The start for the counter after k, from that for k.
 pub(crate) fn renewed(
-    t: &[[u32; 256]; 4],
-    ks: &[[[u8; 4]; 4]; 15],
-    base: [u8; 16],
+    t: &Tables,
+    ks: &RoundKeys,
+    base: Block,
     wide: bool,
     s: Start,
     k: usize,
@@ -105,9 +106,9 @@ pub(crate) fn renewed(
 
 // A block or less, with counter k.
 pub(crate) fn add_single(
-    t: &[[u32; 256]; 4],
-    ks: &[[[u8; 4]; 4]; 15],
-    base: [u8; 16],
+    t: &Tables,
+    ks: &RoundKeys,
+    base: Block,
     wide: bool,
     k: usize,
     text: &[u8],
@@ -131,9 +132,9 @@ fn least(a: usize, b: usize) -> usize
 
 // Less than two blocks, from counter i on.
 fn add_rest(
-    t: &[[u32; 256]; 4],
-    ks: &[[[u8; 4]; 4]; 15],
-    base: [u8; 16],
+    t: &Tables,
+    ks: &RoundKeys,
+    base: Block,
     wide: bool,
     i: usize,
     text: &[u8],
@@ -158,9 +159,9 @@ fn add_rest(
 
 // Two blocks a call, and then what is left, from an even counter i on: a pair's counters differ in the last byte alone.
 fn add_pairs(
-    t: &[[u32; 256]; 4],
-    ks: &[[[u8; 4]; 4]; 15],
-    base: [u8; 16],
+    t: &Tables,
+    ks: &RoundKeys,
+    base: Block,
     wide: bool,
     i: usize,
     text: &[u8],
@@ -189,9 +190,9 @@ fn add_pairs(
 
 // The text added to the key stream from counter i on, over the front of the output; 11, and nothing written, where the field would run over.
 pub(crate) fn counter(
-    t: &[[u32; 256]; 4],
-    ks: &[[[u8; 4]; 4]; 15],
-    base: [u8; 16],
+    t: &Tables,
+    ks: &RoundKeys,
+    base: Block,
     wide: bool,
     i: usize,
     text: &[u8],

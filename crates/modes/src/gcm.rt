@@ -2,8 +2,12 @@
 use crate::counter::counter;
 use crate::counter::counter_block;
 use crate::tag::tag_number;
+use aes::RoundKeys;
+use aes_fast::Tables;
 use aes_fast::encrypt;
 use ghash::hash::ghash_parts;
+use octets::strings::Block;
+use octets::strings::first16;
 use octets::strings::put;
 use octets::strings::xor_blocks;
 ghost use mathlib.Core.Path.{_≡_};
@@ -12,26 +16,25 @@ ghost use mathlib.Core.List.{_++_};
 ghost use Prim.Native.Nat.{_+_, _*_, _≤_};
 ghost use lib.ListN.{length};
 ghost use Rattle.octets.specs.BigEndian.{be};
-ghost use Rattle.octets.specs.Lent.{lowest, answer};
+ghost use Rattle.octets.specs.Lent.{answer};
 ghost use Rattle.aes.specs.Cipher.{cipher};
 ghost use Rattle.aes_fast.specs.Right.{Ready};
-ghost use Rattle.modes.specs.Calls.{tagTests};
+ghost use Rattle.modes.specs.Calls.{dataMax, textMax};
+ghost use Rattle.modes.specs.Within.{SealsWith, OpensWith};
 ghost use Rattle.modes.specs.Counter.{frontOf};
-ghost use Rattle.modes.specs.Gcm.{text, tagOf, tagRight};
+ghost use Rattle.modes.specs.Gcm.{gcmTag, gcmSealed, gcmOpened};
 
 // The counter blocks' front, with a field of zeros.
-fn base_of(iv: &[u8]) -> [u8; 16]
+fn base_of(iv: &[u8]) -> Block
     requires { ⌜ length (now iv) ≡ 12 ⌝ }
     ensures { λ r. ⌜ r ≡ now (iv .entry) ++ be 4 0 ⌝ }
 {
-    let mut b = [0u8; 16];
-    put(&mut b, iv);
-    b
+    first16(iv)
 }
 
 // The last block of the hash: both lengths in bits, 64 bits each, of which the lower two bytes and the lower three are used.
-fn lengths_block(a_len: usize, c_len: usize) -> [u8; 16]
-    requires { ⌜ («a_len» ≤ 4152) × («c_len» ≤ 1048576) ⌝ }
+fn lengths_block(a_len: usize, c_len: usize) -> Block
+    requires { ⌜ («a_len» ≤ dataMax) × («c_len» ≤ textMax) ⌝ }
     ensures { λ r. ⌜ r ≡ be 8 (8 * «a_len») ++ be 8 (8 * «c_len») ⌝ }
 {
     let bits = 8 * a_len;
@@ -42,16 +45,9 @@ fn lengths_block(a_len: usize, c_len: usize) -> [u8; 16]
 }
 
 // The tag of a ciphertext. The associated data is a and then b.
-fn tag_of(
-    t: &[[u32; 256]; 4],
-    ks: &[[[u8; 4]; 4]; 15],
-    base: [u8; 16],
-    a: &[u8],
-    b: &[u8],
-    c: &[u8],
-) -> [u8; 16]
-    requires { ⌜ Ready (now t) (now ks) × (length (now a) + length (now b) ≤ 4152) × (length (now c) ≤ 1048576) ⌝ }
-    ensures { λ r. ⌜ r ≡ tagOf (cipher (now (ks .entry))) (frontOf true base) (now (a .entry) ++ now (b .entry)) (now (c .entry)) ⌝ }
+fn tag_of(t: &Tables, ks: &RoundKeys, base: Block, a: &[u8], b: &[u8], c: &[u8]) -> Block
+    requires { ⌜ Ready (now t) (now ks) × (length (now a) + length (now b) ≤ dataMax) × (length (now c) ≤ textMax) ⌝ }
+    ensures { λ r. ⌜ r ≡ gcmTag (cipher (now (ks .entry))) (frontOf true base) (now (a .entry) ++ now (b .entry)) (now (c .entry)) ⌝ }
 {
     let h = encrypt(t, ks, [0u8; 16]);
     let last = lengths_block(a.len() + b.len(), c.len());
@@ -61,16 +57,16 @@ fn tag_of(
 }
 
 pub(crate) fn seal(
-    t: &[[u32; 256]; 4],
-    ks: &[[[u8; 4]; 4]; 15],
+    t: &Tables,
+    ks: &RoundKeys,
     iv: &[u8],
     a: &[u8],
     b: &[u8],
     p: &[u8],
     out: &mut [u8],
 ) -> u8
-    requires { ⌜ Ready (now t) (now ks) × (length (now iv) ≡ 12) × (length (now a) + length (now b) ≤ 4152) × (length (now p) ≤ 1048576) × (length (now p) + 16 ≤ length (now out)) ⌝ }
-    ensures { λ r. ⌜ answer 0 (text (cipher (now (ks .entry))) (now (iv .entry)) (now (p .entry)) ++ tagOf (cipher (now (ks .entry))) (now (iv .entry)) (now (a .entry) ++ now (b .entry)) (text (cipher (now (ks .entry))) (now (iv .entry)) (now (p .entry)))) (now (out .entry)) ≡ (r, now (out .exit)) ⌝ }
+    requires { ⌜ SealsWith (now t) (now ks) (now iv) (now a) (now b) (now p) (length (now out)) ⌝ }
+    ensures { λ r. ⌜ answer 0 (gcmSealed (cipher (now (ks .entry))) (now (iv .entry)) (now (a .entry) ++ now (b .entry)) (now (p .entry))) (now (out .entry)) ≡ (r, now (out .exit)) ⌝ }
 {
     let n = p.len();
     let base = base_of(iv);
@@ -82,8 +78,8 @@ pub(crate) fn seal(
 
 // 9, or 0 with the plaintext. The output is lent on only after the tag was found right.
 pub(crate) fn open(
-    t: &[[u32; 256]; 4],
-    ks: &[[[u8; 4]; 4]; 15],
+    t: &Tables,
+    ks: &RoundKeys,
     iv: &[u8],
     a: &[u8],
     b: &[u8],
@@ -91,8 +87,8 @@ pub(crate) fn open(
     tag: &[u8],
     out: &mut [u8],
 ) -> u8
-    requires { ⌜ Ready (now t) (now ks) × (length (now iv) ≡ 12) × (length (now a) + length (now b) ≤ 4152) × (length (now c) ≤ 1048576) × (length (now c) ≤ length (now out)) ⌝ }
-    ensures { λ r. ⌜ answer (lowest (tagTests (tagRight (cipher (now (ks .entry))) (now (iv .entry)) (now (a .entry) ++ now (b .entry)) (now (c .entry)) (now (tag .entry))))) (text (cipher (now (ks .entry))) (now (iv .entry)) (now (c .entry))) (now (out .entry)) ≡ (r, now (out .exit)) ⌝ }
+    requires { ⌜ OpensWith (now t) (now ks) (now iv) (now a) (now b) (now c) (now tag) (length (now out)) ⌝ }
+    ensures { λ r. ⌜ gcmOpened (cipher (now (ks .entry))) (now (iv .entry)) (now (a .entry) ++ now (b .entry)) (now (c .entry)) (now (tag .entry)) (now (out .entry)) ≡ (r, now (out .exit)) ⌝ }
 {
     let base = base_of(iv);
     let right = tag_of(t, ks, base, a, b, c);

@@ -5,6 +5,8 @@ use crate::counter::counter_block;
 use crate::counter::renewed;
 use crate::counter::start_at;
 use crate::counter::summed;
+use aes::RoundKeys;
+use aes_fast::Tables;
 use aes_fast::encrypt;
 use aes_fast::encrypt_beside;
 use aes_fast::encrypt_from;
@@ -16,10 +18,10 @@ use aes_fast::halves::halves_at;
 use aes_fast::halves::halves_from;
 use aes_fast::start::Start;
 use cbc_mac::chain_along;
+use octets::strings::Block;
 use octets::strings::xor_blocks;
 ghost use mathlib.Core.Path.{_≡_};
 ghost use mathlib.Core.Bool.{false};
-ghost use mathlib.Core.List.{_++_};
 ghost use Prim.Native.Nat.{_+_, _≤_, _<_};
 ghost use lib.ListN.{length, take, drop};
 ghost use Rattle.octets.specs.Blocks.{cut, chain};
@@ -29,13 +31,14 @@ ghost use Rattle.aes.specs.Cipher.{cipher};
 ghost use Rattle.aes_fast.specs.Right.{Ready};
 ghost use Rattle.aes_fast.specs.Halves.{halvesBlock};
 ghost use Rattle.aes_fast.specs.Start.{cipherFrom};
-ghost use Rattle.modes.specs.Counter.{ctr, frontOf};
+ghost use Rattle.modes.specs.Calls.{textMax};
+ghost use Rattle.modes.specs.Counter.{ctr, withPad, frontOf};
 ghost use Rattle.modes.specs.Pads.{Serves};
 
 // The block at place `at` of a plaintext: chained to y, and with the pad of the counter that ends with the byte `low`.
 fn seal_block(
-    t: &[[u32; 256]; 4],
-    ks: &[[[u8; 4]; 4]; 15],
+    t: &Tables,
+    ks: &RoundKeys,
     s: Start,
     low: u8,
     y: Halves,
@@ -44,7 +47,8 @@ fn seal_block(
     out: &mut [u8],
 ) -> Halves
     requires { ⌜ Ready (now t) (now ks) × (at + 16 ≤ length (now p)) × (at + 16 ≤ length (now out)) ⌝ }
-    ensures { λ r. ⌜ (halvesBlock r ≡ cipher (now (ks .entry)) (xors (halvesBlock y) (take 16 (drop at (now (p .entry)))))) × (now (out .exit) ≡ take at (now (out .entry)) ++ (xors (take 16 (drop at (now (p .entry)))) (cipherFrom (now (t .entry)) (now (ks .entry)) s low) ++ drop 16 (drop at (now (out .entry))))) ⌝ }
+    ensures { λ r. ⌜ halvesBlock r ≡ cipher (now (ks .entry)) (xors (halvesBlock y) (take 16 (drop at (now (p .entry))))) ⌝ }
+    ensures { λ _. ⌜ now (out .exit) ≡ withPad (now (p .entry)) at (cipherFrom (now (t .entry)) (now (ks .entry)) s low) (now (out .entry)) ⌝ }
 {
     let both = encrypt_beside(t, ks, add_halves(y, halves_at(p, at)), s, low);
     add_at(p, at, both.other, out);
@@ -53,16 +57,17 @@ fn seal_block(
 
 // A last part that is shorter than a block, with counter k.
 fn seal_last(
-    t: &[[u32; 256]; 4],
-    ks: &[[[u8; 4]; 4]; 15],
-    base: [u8; 16],
+    t: &Tables,
+    ks: &RoundKeys,
+    base: Block,
     k: usize,
-    y: [u8; 16],
+    y: Block,
     p: &[u8],
     out: &mut [u8],
-) -> [u8; 16]
+) -> Block
     requires { ⌜ Ready (now t) (now ks) × (length (now p) < 16) × (length (now out) ≡ length (now p)) ⌝ }
-    ensures { λ r. ⌜ (r ≡ chain (cipher (now (ks .entry))) y (cut (now (p .entry)))) × (now (out .exit) ≡ ctr (cipher (now (ks .entry))) 3 (frontOf false base) k (now (p .entry))) ⌝ }
+    ensures { λ r. ⌜ r ≡ chain (cipher (now (ks .entry))) y (cut (now (p .entry))) ⌝ }
+    ensures { λ _. ⌜ now (out .exit) ≡ ctr (cipher (now (ks .entry))) 3 (frontOf false base) k (now (p .entry)) ⌝ }
 {
     add_single(t, ks, base, false, k, p, out);
     chain_along(t, ks, y, p)
@@ -70,15 +75,16 @@ fn seal_last(
 
 // A plaintext of any length, in one pass: the chain along it, and its ciphertext over the front of the output.
 pub(crate) fn seal_text(
-    t: &[[u32; 256]; 4],
-    ks: &[[[u8; 4]; 4]; 15],
-    base: [u8; 16],
-    y: [u8; 16],
+    t: &Tables,
+    ks: &RoundKeys,
+    base: Block,
+    y: Block,
     p: &[u8],
     out: &mut [u8],
-) -> [u8; 16]
-    requires { ⌜ Ready (now t) (now ks) × (length (now p) ≤ length (now out)) × (length (now p) ≤ 1048576) ⌝ }
-    ensures { λ r. ⌜ (r ≡ chain (cipher (now (ks .entry))) y (cut (now (p .entry)))) × (now (out .exit) ≡ over (ctr (cipher (now (ks .entry))) 3 (frontOf false base) 1 (now (p .entry))) (now (out .entry))) ⌝ }
+) -> Block
+    requires { ⌜ Ready (now t) (now ks) × (length (now p) ≤ length (now out)) × (length (now p) ≤ textMax) ⌝ }
+    ensures { λ r. ⌜ r ≡ chain (cipher (now (ks .entry))) y (cut (now (p .entry))) ⌝ }
+    ensures { λ _. ⌜ now (out .exit) ≡ over (ctr (cipher (now (ks .entry))) 3 (frontOf false base) 1 (now (p .entry))) (now (out .entry)) ⌝ }
 {
     let n = p.len();
     let mut h = halves_from(y);
@@ -99,8 +105,8 @@ pub(crate) fn seal_text(
 
 // One block of the plaintext that a ciphertext gives, chained to y and written nowhere, beside the pad of the counter that ends with the byte `low`.
 fn open_block(
-    t: &[[u32; 256]; 4],
-    ks: &[[[u8; 4]; 4]; 15],
+    t: &Tables,
+    ks: &RoundKeys,
     s: Start,
     low: u8,
     y: Halves,
@@ -108,21 +114,15 @@ fn open_block(
     pad: Halves,
 ) -> Both
     requires { ⌜ Ready (now t) (now ks) ⌝ }
-    ensures { λ r. ⌜ (halvesBlock (r .one) ≡ cipher (now (ks .entry)) (xors (halvesBlock y) (xors (halvesBlock c) (halvesBlock pad)))) × (halvesBlock (r .other) ≡ cipherFrom (now (t .entry)) (now (ks .entry)) s low) ⌝ }
+    ensures { λ r. ⌜ halvesBlock (r .one) ≡ cipher (now (ks .entry)) (xors (halvesBlock y) (xors (halvesBlock c) (halvesBlock pad))) ⌝ }
+    ensures { λ r. ⌜ halvesBlock (r .other) ≡ cipherFrom (now (t .entry)) (now (ks .entry)) s low ⌝ }
 {
     let x = add_halves(c, pad);
     encrypt_beside(t, ks, add_halves(y, x), s, low)
 }
 
 // The chain along a last part, shorter than a block, of the plaintext that a ciphertext gives, with counter k.
-fn open_last(
-    t: &[[u32; 256]; 4],
-    ks: &[[[u8; 4]; 4]; 15],
-    base: [u8; 16],
-    k: usize,
-    y: [u8; 16],
-    c: &[u8],
-) -> [u8; 16]
+fn open_last(t: &Tables, ks: &RoundKeys, base: Block, k: usize, y: Block, c: &[u8]) -> Block
     requires { ⌜ Ready (now t) (now ks) × (length (now c) < 16) ⌝ }
     ensures { λ r. ⌜ r ≡ chain (cipher (now (ks .entry))) y (cut (ctr (cipher (now (ks .entry))) 3 (frontOf false base) k (now (c .entry)))) ⌝ }
 {
@@ -134,14 +134,8 @@ fn open_last(
 }
 
 // The chain along the plaintext that a ciphertext gives, which is written nowhere: each block is chained beside the next counter.
-pub(crate) fn chain_opened(
-    t: &[[u32; 256]; 4],
-    ks: &[[[u8; 4]; 4]; 15],
-    base: [u8; 16],
-    y: [u8; 16],
-    c: &[u8],
-) -> [u8; 16]
-    requires { ⌜ Ready (now t) (now ks) × (length (now c) ≤ 1048576) ⌝ }
+pub(crate) fn chain_opened(t: &Tables, ks: &RoundKeys, base: Block, y: Block, c: &[u8]) -> Block
+    requires { ⌜ Ready (now t) (now ks) × (length (now c) ≤ textMax) ⌝ }
     ensures { λ r. ⌜ r ≡ chain (cipher (now (ks .entry))) y (cut (ctr (cipher (now (ks .entry))) 3 (frontOf false base) 1 (now (c .entry)))) ⌝ }
 {
     let n = c.len();

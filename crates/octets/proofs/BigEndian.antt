@@ -1,7 +1,7 @@
 -- Big-endian numbers: for every width, writing and reading are each the other's inverse, and keep joining and exclusive or.
 -- Assumes nothing.
 use mathlib.Core.Path.{_≡_, refl, sym, ap, ap₂, _∙_}
-use mathlib.Core.List.{List, [], _∷_, _++_, append-assoc}
+use mathlib.Core.List.{List, [], _∷_, _++_}
 use Prim.Native.Nat.{ℕ, zero, suc, _+_, _*_, _/_, _%_, _^_, _≤_, _<_}
 use native.Mathlib.Nat.{pow-suc, add-zero, zero-add, zero-mul, add-mul, mul-assoc, mul-comm, add-assoc, mul-le-mul-right, le-of-suc-le-suc}
 use native.Mathlib.Nat.{mod-lt, mod-eq-of-lt, div-one, div-eq-of-lt, div-div-eq-div-mul, div-add-mod', mul-add-div-right, mul-add-mod-self-right}
@@ -11,7 +11,7 @@ use lib.Bits.{bitXor, xor-shr, xor-mod}
 use lib.Dec.{lit<}
 use lib.ListN.{length, getD, take, drop, length-append, length-drop}
 use lib.Pow.{pow-add}
-use lib.Seq.{take-at, drop-append-seam, length-take-le}
+use lib.Seq.{length-take-le}
 use Rattle.octets.specs.Bytes.{Bytes}
 use Rattle.octets.specs.Xor.{xors}
 use Rattle.octets.specs.BigEndian.{be, number, numberAt}
@@ -129,15 +129,6 @@ be-xor (suc w) a b =
     (rw (power-two w) (ap (λ (n : ℕ). n % 256) (xor-shr a b (8 * w)) ∙ xor-mod (a / 2 ^ (8 * w)) (b / 2 ^ (8 * w)) 8)) (be-xor w a b)
 
 -- ---- at a place of a string
-
-pub numberAt-be : (w n : ℕ) (a b : List ℕ) → n < 256 ^ w → numberAt w (a ++ be w n ++ b) (length a) ≡ n
-numberAt-be w n a b h =
-    ap number
-    (bytesAt-part w (a ++ be w n ++ b) (length a) (simp (length-append, length-be) (omega arith))
-    ∙ ap (λ (l : List ℕ). take w (drop (length a) l)) (append-assoc a (be w n) b)
-    ∙ ap (take w) (drop-append-seam a (be w n ++ b))
-    ∙ take-at (be w n) b w (length-be w n))
-    ∙ number-be w n h
 
 pub be-numberAt : (w : ℕ) (s : List ℕ) (i : ℕ) → Bytes s → i + w ≤ length s → be w (numberAt w s i) ≡ take w (drop i s)
 be-numberAt w s i h fits =

@@ -2,16 +2,15 @@
 -- Assumes nothing.
 use mathlib.Core.Path.{_≡_, refl, sym, ap, ap₂, _∙_}
 use mathlib.Core.List.{List, [], _∷_, _++_, append-nil}
-use Prim.Native.Nat.{ℕ, zero, suc, _*_, _-_, _≤_, _<_}
-use native.Mathlib.Nat.{not-suc-le-zero, le-of-suc-le-suc}
+use Prim.Native.Nat.{ℕ, zero, suc, _+_, _*_, _-_, _≤_, _<_}
 use native.Mathlib.Omega.{arith}
-use lib.ListN.{length, getD, take, drop, replicate, length-append, length-take, length-drop, length-replicate, drop-of-length-le}
-use lib.Seq.{take-all, take-append-le, drop-append-le, length-take-le}
+use lib.ListN.{length, take, drop, replicate, length-append, length-drop, length-replicate, drop-of-length-le}
+use lib.Seq.{take-all, take-append-le, drop-append-le, drop-drop, length-take-le}
 use Rattle.octets.specs.Bytes.{Bytes}
 use Rattle.octets.specs.Xor.{xors}
 use Rattle.octets.specs.Blocks.{blocks, fill, cutInto, cut, chain}
 use Rattle.octets.proofs.Values.{cons-equal}
-use Rattle.octets.proofs.Bytes.{bytes-nil, bytes-append, bytes-take, bytes-drop, bytes-zeros}
+use Rattle.octets.proofs.Bytes.{bytes-append, bytes-zeros}
 
 -- ---- a block or less, filled
 
@@ -46,10 +45,6 @@ cut-short s some le =
 pub cut-next : (s : List ℕ) → 16 ≤ length s → cut s ≡ take 16 s ∷ cut (drop 16 s)
 cut-next s le = cut-first s (omega arith) ∙ cons-equal (fill-whole (take 16 s) (length-take-le 16 s le)) refl
 
--- a block is cut into itself
-pub cut-block : (b : List ℕ) → length b ≡ 16 → cut b ≡ b ∷ []
-cut-block b size = cut-short b (omega arith) (omega arith) ∙ cons-equal (fill-whole b size) refl
-
 -- where the first string is whole blocks, two strings are cut apart
 pub cut-append : (m : ℕ) (a b : List ℕ) → length a ≡ 16 * m → cut (a ++ b) ≡ cut a ++ cut b
 cut-append zero [] b e = ap (λ (bs : List (List ℕ)). bs ++ cut b) (sym cut-nil)
@@ -59,35 +54,6 @@ cut-append (suc m) a b e =
     ∙ cons-equal (take-append-le 16 a b (omega arith))
     (ap cut (drop-append-le 16 a b (omega arith)) ∙ cut-append m (drop 16 a) b (omega (arith, length-drop 16 a)))
     ∙ sym (ap (λ (bs : List (List ℕ)). bs ++ cut b) (cut-next a (omega arith)))
-
--- ---- the blocks of a string: how many, 16 bytes each, and of bytes
-
-module _ (s : List ℕ) where
-  pub length-cut : length (cut s) ≡ blocks (length s)
-  unfolding cut
-  length-cut = go (blocks (length s)) s
-    where
-      go : (m : ℕ) (s : List ℕ) → length (cutInto m s) ≡ m
-      go zero s = refl
-      go (suc m) s = ap suc (go m (drop 16 s))
-
-  pub length-cut-at : (i : ℕ) → i < length (cut s) → length (getD (cut s) i []) ≡ 16
-  unfolding cut
-  length-cut-at = go (blocks (length s)) s
-    where
-      go : (m : ℕ) (s : List ℕ) (i : ℕ) → i < length (cutInto m s) → length (getD (cutInto m s) i []) ≡ 16
-      go zero s i h = absurd (not-suc-le-zero h)
-      go (suc m) s zero h = length-fill (take 16 s) (omega (arith, length-take 16 s))
-      go (suc m) s (suc i) h = go m (drop 16 s) i (le-of-suc-le-suc h)
-
-pub bytes-cut-at : {s : List ℕ} → Bytes s → (i : ℕ) → Bytes (getD (cut s) i [])
-unfolding cut
-bytes-cut-at {s} h i = go (blocks (length s)) s i h
-  where
-    go : (m : ℕ) (s : List ℕ) (i : ℕ) → Bytes s → Bytes (getD (cutInto m s) i [])
-    go zero s i h = bytes-nil
-    go (suc m) s zero h = bytes-fill (bytes-take 16 h)
-    go (suc m) s (suc i) h = go m (drop 16 s) i (bytes-drop 16 h)
 
 -- ---- chain
 
@@ -108,3 +74,10 @@ module _ (f : List ℕ → List ℕ) where
   pub chain-same : (g : List ℕ → List ℕ) → ((x : List ℕ) → f x ≡ g x) → (y : List ℕ) (bs : List (List ℕ)) → chain f y bs ≡ chain g y bs
   chain-same g same y [] = refl
   chain-same g same y (b ∷ bs) = ap (λ (x : List ℕ). chain f x bs) (same (xors y b)) ∙ chain-same g same (g (xors y b)) bs
+
+  -- the block at place `at`, of what is left from there
+  pub chain-turn : (y s : List ℕ) (at : ℕ) → at + 16 ≤ length s
+      → chain f (f (xors y (take 16 (drop at s)))) (cut (drop (at + 16) s)) ≡ chain f y (cut (drop at s))
+  chain-turn y s at h =
+      ap (λ (l : List ℕ). chain f (f (xors y (take 16 (drop at s)))) (cut l)) (sym (drop-drop 16 at s))
+      ∙ sym (ap (chain f y) (cut-next (drop at s) (omega (arith, length-drop at s))))

@@ -1,18 +1,19 @@
 -- A string written over the front of another, and what the answer of a call tells.
 -- Assumes nothing.
 use mathlib.Core.Path.{_≡_, refl, sym, ap, ap₂, _∙_}
-use mathlib.Core.Bool.{Bool, true, false, not, _&&_}
-use mathlib.Core.List.{List, [], _∷_, _++_, append-assoc, append-nil}
+use mathlib.Core.Bool.{Bool, true, false, not, _&&_, _||_}
+use mathlib.Core.List.{List, [], _∷_, _++_, append-nil}
 use Prim.Native.Nat.{ℕ, zero, suc, _+_, _-_, _≤_, _<_, min}
 use native.Mathlib.Nat.{zero-min, min-zero, suc-min-suc}
 use native.Mathlib.Numerals.{add-one}
 use native.Mathlib.Omega.{arith}
-use lib.Dec.{eqb}
+use lib.Dec.{eqb, ltb}
 use lib.ListN.{length, getD, set, take, drop, replicate, length-replicate, length-append, length-take, length-drop, drop-of-length-le}
-use lib.Seq.{take-all, take-nil, take-suc, drop-cons, set-at, append-snoc, length-take-le, take-at, drop-at, drop-drop}
-use borrow.Author.Tests.{eqb-true, eqb-false, eq-eqb, not-true, not-false}
-use Rattle.octets.specs.Lent.{when, isNot, lowest, over, answer}
-use Rattle.octets.proofs.Tests.{and-left, and-right, rest-all}
+use lib.Seq.{take-all, take-nil, take-suc, drop-cons, set-at, append-snoc, length-take-le, take-at, drop-at}
+use borrow.Author.Tests.{eqb-true, eq-eqb, ltb-true, not-false}
+use Rattle.octets.specs.Lent.{Tests, when, isNot, lowest, over, answer}
+use Rattle.octets.specs.Lowest.{risesAbove, rises}
+use Rattle.octets.proofs.Tests.{and-left, and-right, or-left, or-right, rest-all}
 
 -- ---- lengths
 
@@ -21,6 +22,14 @@ isNot-false n s right = eqb-true (length s) n (not-false (eqb (length s) n) righ
 
 pub isNot-right : (n : ℕ) (s : List ℕ) → length s ≡ n → isNot n s ≡ false
 isNot-right n s e = rw (eq-eqb (length s) n e)
+
+-- two strings whose lengths are tested together
+module _ (m n : ℕ) (s t : List ℕ) (right : (isNot m s || isNot n t) ≡ false) where
+  pub first-right : length s ≡ m
+  first-right = isNot-false m s (or-left (isNot m s) (isNot n t) right)
+
+  pub second-right : length t ≡ n
+  second-right = isNot-false n t (or-right (isNot m s) (isNot n t) right)
 
 -- ---- over
 
@@ -39,6 +48,12 @@ over-empty d = ap (λ (l : List ℕ). l ++ d) (take-nil (length d))
 
 pub length-over : (s d : List ℕ) → length (over s d) ≡ length d
 length-over s d = simp (length-append, length-take, length-drop) (omega arith)
+
+-- two strings end to end, the first of which fits
+pub over-append : (s t d : List ℕ) → length s ≤ length d → over (s ++ t) d ≡ s ++ over t (drop (length s) d)
+over-append [] t d fits = refl
+over-append (x ∷ s) t [] fits = absurd (omega arith)
+over-append (x ∷ s) t (y ∷ d) fits = ap (λ (l : List ℕ). x ∷ l) (over-append s t d (omega arith))
 
 -- ---- the loop that writes: after i bytes
 
@@ -66,25 +81,31 @@ one-answer p q = sym p ∙ q
 
 -- ---- where 0 is given, no test of the list applies
 
-abbrev pub testAt : List (ℕ × Bool) → ℕ → Bool
+abbrev pub testAt : Tests → ℕ → Bool
 testAt [] i = false
 testAt (n ∷ ns) zero = n .1
 testAt (n ∷ ns) (suc i) = testAt ns i
 
--- no number of the list is 0
-abbrev pub numbered : List (ℕ × Bool) → Bool
-numbered [] = true
-numbered (n ∷ ns) = not (eqb (n .0) 0) && numbered ns
-
-pub none-applies : (ns : List (ℕ × Bool)) (i : ℕ) → numbered ns ≡ true → lowest ns ≡ 0 → testAt ns i ≡ false
-none-applies [] i h e = refl
-none-applies (n ∷ ns) i h e =
-    go (n .1) refl e i (λ (j : ℕ) (q : lowest ns ≡ 0). none-applies ns j (and-right (not (eqb (n .0) 0)) (numbered ns) h) q)
+none-above : (least : ℕ) (ns : Tests) (i : ℕ) → risesAbove least ns ≡ true → lowest ns ≡ 0 → testAt ns i ≡ false
+none-above least [] i h e = refl
+none-above least (n ∷ ns) i h e =
+    go (n .1) refl e i (λ (j : ℕ) (q : lowest ns ≡ 0). none-above (n .0) ns j (and-right (ltb least (n .0)) (risesAbove (n .0) ns) h) q)
   where
+    above : least < n .0
+    above = ltb-true least (n .0) (and-left (ltb least (n .0)) (risesAbove (n .0) ns) h)
+
     go : (t : Bool) → n .1 ≡ t → when t (n .0) (lowest ns) ≡ 0 → (i : ℕ) → ((j : ℕ) → lowest ns ≡ 0 → testAt ns j ≡ false) → testAt (n ∷ ns) i ≡ false
-    go true p q i ih = absurd (eqb-false (n .0) 0 (not-true _ (and-left (not (eqb (n .0) 0)) (numbered ns) h)) q)
+    go true p q i ih = absurd (omega (arith, above))
     go false p q zero ih = p
     go false p q (suc i) ih = ih i q
+
+pub none-applies : (ns : Tests) (i : ℕ) → rises ns ≡ true → lowest ns ≡ 0 → testAt ns i ≡ false
+none-applies = none-above 0
+
+-- no number of the list is 0
+abbrev pub numbered : Tests → Bool
+numbered [] = true
+numbered (n ∷ ns) = not (eqb (n .0) 0) && numbered ns
 
 -- ---- the answer 0, and what it tells
 
@@ -118,25 +139,18 @@ over-injective s t d size fits e = sym (take-over s d (length t) size fits) ∙ 
 pub over-front : (s d d₁ : List ℕ) (n : ℕ) → length s ≡ n → n ≤ length d → d₁ ≡ over s d → take n d₁ ≡ s
 over-front s d d₁ n size fits first = ap (take n) first ∙ take-over s d n size fits
 
-module _ (s t d d₁ ys : List ℕ) (n : ℕ) (size : length s ≡ n) (fits : n + length t ≤ length d) (first : d₁ ≡ over s d) where
-  whole : d₁ ≡ s ++ drop n d
-  whole = first ∙ over-fits s d (omega arith) ∙ ap (λ (k : ℕ). s ++ drop k d) size
-
+module _ (s t d d₁ ys : List ℕ) (n : ℕ) (size : length s ≡ n) (fits : n ≤ length d) (first : d₁ ≡ over s d) where
   rest : drop n d₁ ≡ drop n d
-  rest = ap (drop n) whole ∙ drop-at s (drop n d) n size
+  rest = ap (drop n) first ∙ drop-over s d n size fits
 
   pub over-then : ys ≡ over t (take (length d₁ - n) (drop n d₁)) → take n d₁ ++ (ys ++ drop (length d₁ - n) (drop n d₁)) ≡ over (s ++ t) d
   over-then second =
-      ap₂ (λ (x y : List ℕ). x ++ y) (over-front s d d₁ n size (omega arith) first) (ap₂ (λ (x y : List ℕ). x ++ y) written none ∙ append-nil (t ++ drop (length t) (drop n d)))
-      ∙ ap (λ (l : List ℕ). s ++ (t ++ l)) (drop-drop (length t) n d ∙ ap (λ (k : ℕ). drop k d) both)
-      ∙ sym (append-assoc s t (drop (length (s ++ t)) d))
-      ∙ sym (over-fits (s ++ t) d (omega (arith, length-append s t)))
+      ap₂ (λ (x y : List ℕ). x ++ y) (over-front s d d₁ n size fits first) (ap₂ (λ (x y : List ℕ). x ++ y) written none ∙ append-nil (over t (drop n d)))
+      ∙ ap (λ (k : ℕ). s ++ over t (drop k d)) (sym size)
+      ∙ sym (over-append s t d (omega arith))
     where
       none : drop (length d₁ - n) (drop n d₁) ≡ []
       none = drop-of-length-le (drop n d₁) {i = length d₁ - n} (omega (arith, length-drop n d₁))
 
-      written : ys ≡ t ++ drop (length t) (drop n d)
-      written = second ∙ ap (over t) (rest-all d₁ n ∙ rest) ∙ over-fits t (drop n d) (omega (arith, length-drop n d))
-
-      both : n + length t ≡ length (s ++ t)
-      both = omega (arith, length-append s t)
+      written : ys ≡ over t (drop n d)
+      written = second ∙ ap (over t) (rest-all d₁ n ∙ rest)

@@ -1,16 +1,15 @@
--- `lowest` of tests whose numbers rise is the lowest number that applies.
+-- `lowest` of tests whose numbers rise is the lowest number that applies; and where tests come after others, these decide first.
 -- Assumes nothing.
-use mathlib.Core.Path.{_≡_, refl, ap}
+use mathlib.Core.Path.{_≡_, refl, ap, _∙_}
 use mathlib.Core.Logic.{_⊎_, inl, inr, ⊎-elim}
-use mathlib.Core.Bool.{Bool, true, false, _&&_, false≢true}
-use mathlib.Core.List.{List, [], _∷_}
+use mathlib.Core.Bool.{Bool, true, false, false≢true}
+use mathlib.Core.List.{[], _∷_, _++_}
 use Prim.Native.Nat.{ℕ, zero, suc, _≤_, _<_}
 use native.Mathlib.Omega.{arith}
-use borrow.Author.Tests.{ltb-true}
-use lib.Dec.{ltb}
-use lib.ListN.{getD}
+use borrow.Author.Tests.{eq-eqb, ne-eqb, ltb-true}
+use lib.Dec.{eqb, ltb}
 use Rattle.octets.specs.Lent.{Tests, when, lowest}
-use Rattle.octets.specs.Lowest.{risesAbove, rises, AppliesAt, Lowest, LowestIs}
+use Rattle.octets.specs.Lowest.{risesAbove, rises, AppliesAt, LowestIs}
 use Rattle.octets.proofs.Tests.{and-left, and-right}
 
 abbrev Given : Tests → ℕ → Type 0
@@ -42,3 +41,27 @@ lowest-least least (t ∷ ts) h i m e =
 
 pub lowest-is : LowestIs
 lowest-is ts h = record { applies = lowest-given ts; least = λ i m e. lowest-least 0 ts h i m e }
+
+-- ---- tests after others: the first list decides, unless it gives 0
+
+pub lowest-then : (ns ms : Tests) → rises ns ≡ true → lowest (ns ++ ms) ≡ when (eqb (lowest ns) 0) (lowest ms) (lowest ns)
+lowest-then = after 0
+  where
+    after : (least : ℕ) (ns ms : Tests) → risesAbove least ns ≡ true → lowest (ns ++ ms) ≡ when (eqb (lowest ns) 0) (lowest ms) (lowest ns)
+    after least [] ms h = refl
+    after least (n ∷ ns) ms h = go (n .1) (after (n .0) ns ms (and-right (ltb least (n .0)) (risesAbove (n .0) ns) h))
+      where
+        above : least < n .0
+        above = ltb-true least (n .0) (and-left (ltb least (n .0)) (risesAbove (n .0) ns) h)
+
+        go : (t : Bool) → lowest (ns ++ ms) ≡ when (eqb (lowest ns) 0) (lowest ms) (lowest ns)
+            → when t (n .0) (lowest (ns ++ ms)) ≡ when (eqb (when t (n .0) (lowest ns)) 0) (lowest ms) (when t (n .0) (lowest ns))
+        go true e = rw (ne-eqb (n .0) 0 (λ z. omega (arith, above)))
+        go false e = e
+
+module _ (ns ms : Tests) (h : rises ns ≡ true) where
+  pub lowest-refused : (lowest ns ≡ 0 → ⊥) → lowest (ns ++ ms) ≡ lowest ns
+  lowest-refused some = lowest-then ns ms h ∙ ap (λ (t : Bool). when t (lowest ms) (lowest ns)) (ne-eqb (lowest ns) 0 some)
+
+  pub lowest-passed : lowest ns ≡ 0 → lowest (ns ++ ms) ≡ lowest ms
+  lowest-passed none = lowest-then ns ms h ∙ ap (λ (t : Bool). when t (lowest ms) (lowest ns)) (eq-eqb (lowest ns) 0 none)

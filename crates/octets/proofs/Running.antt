@@ -10,8 +10,8 @@ use native.Mathlib.Omega.{arith}
 use borrow.Author.Tests.{eq-eqb, ne-eqb}
 use lib.Bits.{bitXor, xor-zero-r}
 use lib.Dec.{eqb, lit<}
-use lib.ListN.{length, getD, take, drop, replicate, length-append, length-drop, length-set, take-append-drop, replicate-append-replicate, drop-of-length-le}
-use lib.Seq.{drop-cons, length-take-le}
+use lib.ListN.{length, getD, take, drop, replicate, length-append, length-take, length-drop, length-set, take-append-drop, replicate-append-replicate, drop-of-length-le}
+use lib.Seq.{drop-cons, drop-drop, length-take-le}
 use Rattle.octets.specs.Bytes.{Bytes}
 use Rattle.octets.specs.Xor.{xors}
 use Rattle.octets.specs.Lent.{when}
@@ -136,6 +136,30 @@ module _ (f : List ℕ → List ℕ) where
     where
       front : length (take 16 s) ≡ 16
       front = length-take-le 16 s h
+
+  -- ---- along what is left of a string
+
+  -- the block at place `at`, of what is left from there
+  pub absorb-block-turn : (y s : List ℕ) (at : ℕ) → length y ≡ 16 → at + 16 ≤ length s
+      → absorb f 0 (f (xors y (take 16 (drop at s)))) (drop (at + 16) s) ≡ absorb f 0 y (drop at s)
+  absorb-block-turn y s at size h =
+      ap (absorb f 0 (f (xors y (take 16 (drop at s))))) (sym (drop-drop 16 at s))
+      ∙ sym (absorb-blocks y (drop at s) size (omega (arith, length-drop at s)))
+
+  pub absorb-end : (k : ℕ) (y s : List ℕ) (i : ℕ) → length s ≤ i → absorb f k y (drop i s) ≡ y
+  absorb-end k y s i h = ap (absorb f k y) (drop-of-length-le s {i = i} h) ∙ absorb-nil k y
+
+  -- the bytes that fill the block, and then from the start of one
+  pub absorb-to-block : (k : ℕ) (y s : List ℕ) (n : ℕ) → k < 16 → n ≡ (16 - k) % 16 → n ≤ length s
+      → absorb f 0 (absorb f k y (take n s)) (drop n s) ≡ absorb f k y s
+  absorb-to-block k y s n h e le =
+      sym
+      (ap (absorb f k y) (sym (take-append-drop n s))
+      ∙ absorb-append k y (take n s) (drop n s) h
+      ∙ ap (λ (j : ℕ). absorb f j (absorb f k y (take n s)) (drop n s)) whole)
+    where
+      whole : (k + length (take n s)) % 16 ≡ 0
+      whole = omega (arith, length-take n s)
 
   -- ---- close
 

@@ -13,14 +13,7 @@ use lib.ListN.{length, getD, drop, drop-of-length-le}
 use lib.Seq.{drop-cons}
 use Rattle.octets.specs.Same.{same}
 use Rattle.octets.proofs.Values.{cons-equal}
-
-and-left : (a b : Bool) → (a && b) ≡ true → a ≡ true
-and-left true b e = refl
-and-left false b e = e
-
-and-right : (a b : Bool) → (a && b) ≡ true → b ≡ true
-and-right true b e = e
-and-right false b e = absurd (false≢true e)
+use Rattle.octets.proofs.Tests.{and-left, and-right}
 
 pub same-equal : (s t : List ℕ) → same s t ≡ true → s ≡ t
 unfolding same

@@ -14,6 +14,10 @@ use Rattle.octets.specs.Values.{values, bytesAt}
 pub cons-equal : {A : Type 0} {a b : A} {s t : List A} → a ≡ b → s ≡ t → a ∷ s ≡ b ∷ t
 cons-equal {A} p q = ap₂ (λ (a : A) (l : List A). a ∷ l) p q
 
+-- lists of four by their elements
+pub four : {A : Type 0} {a b c d a′ b′ c′ d′ : A} → a ≡ a′ → b ≡ b′ → c ≡ c′ → d ≡ d′ → a ∷ b ∷ c ∷ d ∷ [] ≡ a′ ∷ b′ ∷ c′ ∷ d′ ∷ []
+four p q r s = cc
+
 -- ---- the elements of a function
 
 next-place : (i k : ℕ) → suc i + k ≡ i + suc k

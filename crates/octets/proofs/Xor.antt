@@ -15,14 +15,6 @@ use Rattle.octets.specs.Xor.{xors}
 use Rattle.octets.proofs.Values.{cons-equal, values-later}
 use Rattle.octets.proofs.Bytes.{bytes-nil, bytes-cons, bytes-head, bytes-tail}
 
--- two sums of two, with the inner terms exchanged, of any sum that is associative and commutative
-exchange : {A : Type 0} (sum : A → A → A) → ((a b c : A) → sum (sum a b) c ≡ sum a (sum b c)) → ((a b : A) → sum a b ≡ sum b a)
-    → (a b c d : A) → sum (sum a b) (sum c d) ≡ sum (sum a c) (sum b d)
-exchange {A} sum assoc comm a b c d =
-    assoc a b (sum c d)
-    ∙ ap (sum a) (sym (assoc b c d) ∙ ap (λ (x : A). sum x d) (comm b c) ∙ assoc c b d)
-    ∙ sym (assoc a c (sum b d))
-
 -- ---- numbers
 
 -- on the digits 0 and 1
@@ -59,8 +51,12 @@ xor-assoc =
     ∙ ap (differ (n % 2)) (sym (xor-digit b c)))
     ∙ sym (xor-step n (bitXor b c)))
 
+-- two sums of two, with the inner terms exchanged
 pub xor-exchange : (a b c d : ℕ) → bitXor (bitXor a b) (bitXor c d) ≡ bitXor (bitXor a c) (bitXor b d)
-xor-exchange = exchange bitXor xor-assoc xor-comm
+xor-exchange a b c d =
+    xor-assoc a b (bitXor c d)
+    ∙ ap (bitXor a) (sym (xor-assoc b c d) ∙ ap (λ (x : ℕ). bitXor x d) (xor-comm b c) ∙ xor-assoc c b d)
+    ∙ sym (xor-assoc a c (bitXor b d))
 
 pub xor-cancel : (a k : ℕ) → bitXor (bitXor a k) k ≡ a
 xor-cancel a k = xor-assoc a k k ∙ ap (bitXor a) (xor-self k) ∙ xor-zero-r a
@@ -81,9 +77,6 @@ xors-assoc [] b c = refl
 xors-assoc (x ∷ a) [] c = refl
 xors-assoc (x ∷ a) (y ∷ b) [] = refl
 xors-assoc (x ∷ a) (y ∷ b) (z ∷ c) = cons-equal (xor-assoc x y z) (xors-assoc a b c)
-
-pub xors-exchange : (a b c d : List ℕ) → xors (xors a b) (xors c d) ≡ xors (xors a c) (xors b d)
-xors-exchange = exchange xors xors-assoc xors-comm
 
 pub xors-cancel : (a k : List ℕ) → length a ≤ length k → xors (xors a k) k ≡ a
 xors-cancel [] k h = refl

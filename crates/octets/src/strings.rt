@@ -1,10 +1,14 @@
 // Whole strings: compared, added, and written one over another.
 ghost use mathlib.Core.Path.{_≡_};
+ghost use mathlib.Core.List.{_++_};
+ghost use lib.ListN.{replicate};
 ghost use Rattle.octets.specs.Xor.{xors};
 ghost use Rattle.octets.specs.Same.{same};
 ghost use Rattle.octets.specs.Lent.{over};
 ghost use Rattle.octets.specs.Tests.{partOf, zeros};
 ghost use Rattle.octets.specs.Places.{placed, partIn};
+
+pub type Block = [u8; 16];
 
 // Whether two strings have the same length and the same bytes. Every byte is looked at, whatever the earlier ones are.
 pub fn equal(a: &[u8], b: &[u8]) -> bool
@@ -23,7 +27,7 @@ pub fn equal(a: &[u8], b: &[u8]) -> bool
 }
 
 // The exclusive or of two blocks.
-pub fn xor_blocks(a: [u8; 16], b: [u8; 16]) -> [u8; 16]
+pub fn xor_blocks(a: Block, b: Block) -> Block
     ensures { λ r. ⌜ r ≡ xors a b ⌝ }
 {
     [
@@ -58,6 +62,48 @@ pub fn put(out: &mut [u8], s: &[u8])
         out[i] = s[i];
         i += 1;
     }
+}
+
+// The first 16 bytes of a string, and zeros where it is shorter.
+pub fn first16(s: &[u8]) -> Block
+    ensures { λ r. ⌜ r ≡ over (now (s .entry)) (replicate 16 0) ⌝ }
+{
+    let mut b = [0u8; 16];
+    put(&mut b, s);
+    b
+}
+
+// The first 32 bytes, likewise.
+pub fn first32(s: &[u8]) -> [u8; 32]
+    ensures { λ r. ⌜ r ≡ over (now (s .entry)) (replicate 32 0) ⌝ }
+{
+    let mut b = [0u8; 32];
+    put(&mut b, s);
+    b
+}
+
+// Eight bytes and then eight.
+pub fn two_eights(a: [u8; 8], b: [u8; 8]) -> Block
+    ensures { λ r. ⌜ r ≡ a ++ b ⌝ }
+{
+    [
+        a[0],
+        a[1],
+        a[2],
+        a[3],
+        a[4],
+        a[5],
+        a[6],
+        a[7],
+        b[0],
+        b[1],
+        b[2],
+        b[3],
+        b[4],
+        b[5],
+        b[6],
+        b[7],
+    ]
 }
 
 // The n bytes from place i on, as far as the string reaches, as the part of the string that they are.

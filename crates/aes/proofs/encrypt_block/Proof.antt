@@ -6,9 +6,10 @@ use mathlib.Core.Bool.{false}
 use mathlib.Core.List.{List}
 use Prim.Native.Nat.{ℕ}
 use denote.Ref.{now}
+use Rattle.octets.proofs.Lent.{first-right, second-right, over-zeros}
 use Rattle.aes.specs.Cipher.{cipher}
-use Rattle.aes.specs.Calls.{wrongLengths}
-use Rattle.aes.proofs.Calls.{key-right, block-right, refused, done}
+use Rattle.aes.specs.Calls.{keySize, blockSize, wrongLengths}
+use Rattle.aes.proofs.Calls.{refused, done}
 use Rattle.aes.proofs.encrypt_block.Statement.{statement}
 use Rattle.aes.proofs.encrypt_block.Tie as tie
 
@@ -30,14 +31,6 @@ returns c =
     let tested = given .before .before in
     refused cipher _ _ _ _ (sym (tested .before .wrong-lengths .ensures) ∙ tested .if1 .taken) (given .refuse .ensures)
 
-key-of-requires : tie.Need-key-of-requires
-key-of-requires c κs = key-right (key c) (block c) (right c)
-
-block-of-requires : tie.Need-block-of-requires
-block-of-requires c κs =
-    let tested = c .before .before .before in
-    block-right (key tested) (block tested) (right tested)
-
 returns-2 : tie.Need-returns-2
 returns-2 c =
     let given = c .before .before in
@@ -45,8 +38,11 @@ returns-2 c =
     let read = ran .before in
     let keys = read .before .before in
     let key-read = keys .before in
-    done cipher _ _ (key-read .key-of .result) (read .block-of .result) (ran .encrypt .result) _ (keys .expand-key .result) _ (right (key-read .before))
-    (key-read .key-of .ensures) (read .block-of .ensures) (keys .expand-key .ensures) (ran .encrypt .ensures) (given .give .ensures)
+    let tested = key-read .before in
+    done cipher _ _ (key-read .first32 .result) (read .first16 .result) (ran .encrypt .result) _ (keys .expand-key .result) _ (right tested)
+    (key-read .first32 .ensures ∙ over-zeros (key tested) keySize (first-right keySize blockSize (key tested) (block tested) (right tested)))
+    (read .first16 .ensures ∙ over-zeros (block tested) blockSize (second-right keySize blockSize (key tested) (block tested) (right tested)))
+    (keys .expand-key .ensures) (ran .encrypt .ensures) (given .give .ensures)
 
 pub encrypt-block-spec : {M : Type 1} → statement M
 encrypt-block-spec =
@@ -56,9 +52,9 @@ encrypt-block-spec =
     (λ c κs. search needs)
     (λ c. search needs)
     returns
-    key-of-requires
     (λ c κs. search needs)
-    block-of-requires
+    (λ c κs. search needs)
+    (λ c κs. search needs)
     (λ c κs. search needs)
     (λ c κs. search needs)
     (λ c. search needs)

@@ -5,9 +5,9 @@ use Prim.Native.Nat.{ℕ}
 use mathlib.Core.List.{List, []}
 use lib.ListN.{getD}
 use Rattle.aes.specs.State.{State, stateFrom, bytesOf}
-use Rattle.aes.specs.Cipher.{addRoundKey, lastRound, rounds, cipher}
+use Rattle.aes.specs.Cipher.{addRoundKey, lastRound, firstRounds, cipher}
 
 pub cipher-is : (ks : List State) (b : List ℕ)
-    → cipher ks b ≡ bytesOf (lastRound (rounds ks 13 (addRoundKey (stateFrom b) (getD ks 0 []))) (getD ks 14 []))
+    → cipher ks b ≡ bytesOf (lastRound (firstRounds ks 13 (addRoundKey (stateFrom b) (getD ks 0 []))) (getD ks 14 []))
 unfolding cipher
 cipher-is ks b = refl

@@ -6,7 +6,7 @@ use mathlib.Core.List.{List, []}
 use lib.ListN.{getD}
 use Rattle.aes.specs.State.{State, column, bytesOf}
 use Rattle.aes.specs.Cipher.{addColumn, addRoundKey}
-use Rattle.aes_fast.specs.ByTables.{Tables, entryAt, shifted, laterRoundsBy}
+use Rattle.aes_fast.specs.ByTables.{Tables, tableEntry, shifted, laterRoundsBy}
 use Rattle.aes_fast.specs.Right.{wordFrom}
 use Rattle.aes_fast.specs.Halves.{halvesFrom}
 use Rattle.aes_fast.specs.declared.start.Start.{Start}
@@ -17,7 +17,7 @@ module _ (t : Tables) (ks : List State) (b : List ℕ) where
   unfolding startBy
   start-key = refl
 
-  pub start-first : startBy t ks b .first ≡ wordFrom (addColumn (column (stateAfter t ks 1 b) 0) (entryAt t 3 (shifted (stateAfter t ks 0 b) 0 3)))
+  pub start-first : startBy t ks b .first ≡ wordFrom (addColumn (column (stateAfter t ks 1 b) 0) (tableEntry t 3 (shifted (stateAfter t ks 0 b) 0 3)))
   unfolding startBy
   start-first = refl
 

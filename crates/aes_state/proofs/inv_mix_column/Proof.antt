@@ -1,8 +1,8 @@
 -- `aes_state::inv_mix_column` meets its contract: each row adds one multiple of each byte.
 -- Assumes nothing.
 use borrow.Author.Needs.{needs}
+use Rattle.octets.proofs.Values.{four}
 use Rattle.aes_field.proofs.Unmix.{add4}
-use Rattle.aes_state.proofs.Grid.{four}
 use Rattle.aes_state.proofs.inv_mix_column.Statement.{statement}
 use Rattle.aes_state.proofs.inv_mix_column.Tie as tie
 

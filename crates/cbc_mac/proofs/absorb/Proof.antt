@@ -10,9 +10,9 @@ use lib.ListN.{length-take}
 use Rattle.octets.specs.Running.{absorb}
 use Rattle.octets.proofs.Arrays.{array-bytes}
 use Rattle.octets.proofs.Tests.{rest-all}
+use Rattle.octets.proofs.Running.{absorb-to-block}
 use Rattle.aes_fast.specs.ByTables.{cipherBy}
 use Rattle.cbc_mac.specs.Laws.{IsBlock}
-use Rattle.cbc_mac.proofs.Chained.{absorb-to-block}
 use Rattle.cbc_mac.proofs.Ready.{absorb-ciphered}
 use Rattle.cbc_mac.proofs.absorb.Statement.{statement}
 use Rattle.cbc_mac.proofs.absorb.Tie as tie

@@ -9,9 +9,9 @@ use lib.ListN.{length, drop}
 use Rattle.octets.specs.Xor.{xors}
 use Rattle.octets.specs.Running.{absorb}
 use Rattle.octets.proofs.Tests.{rest-all}
+use Rattle.octets.proofs.Running.{absorb-block-turn}
 use Rattle.aes_fast.specs.ByTables.{cipherBy}
 use Rattle.aes_fast.proofs.Laws.{block-at-whole}
-use Rattle.cbc_mac.proofs.Chained.{absorb-block-turn}
 use Rattle.cbc_mac.proofs.absorb_blocks.Statement.{statement}
 use Rattle.cbc_mac.proofs.absorb_blocks.Tie as tie
 

@@ -6,9 +6,8 @@ use Prim.Native.Nat.{ℕ, _+_, _-_, _%_, _≤_, _<_}
 use native.Mathlib.Omega.{arith}
 use lib.ListN.{length, drop}
 use Rattle.octets.specs.Running.{absorb}
-use Rattle.octets.proofs.Running.{absorb-turn}
+use Rattle.octets.proofs.Running.{absorb-turn, absorb-end}
 use Rattle.aes_fast.specs.ByTables.{cipherBy}
-use Rattle.cbc_mac.proofs.Chained.{absorb-end}
 use Rattle.cbc_mac.proofs.absorb_bytes.Statement.{statement}
 use Rattle.cbc_mac.proofs.absorb_bytes.Tie as tie
 

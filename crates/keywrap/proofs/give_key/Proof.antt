@@ -6,7 +6,7 @@ use borrow.Author.Needs.{needs}
 use Prim.Native.Nat.{ℕ}
 use denote.Ref.{now}
 use Rattle.octets.specs.Lent.{over}
-use Rattle.keywrap.proofs.Parts.{each-owned, joined-rest}
+use Rattle.keywrap.proofs.Parts.{each-owned, registerBytes-rest}
 use Rattle.keywrap.proofs.give_key.Statement.{statement}
 use Rattle.keywrap.proofs.give_key.Tie as tie
 
@@ -17,7 +17,7 @@ returns c =
     let good = start .good .1 .0 in (
       refl,
       c .before .before .put .ensures ∙ ap (λ (l : List ℕ). over l (now (start .args .out)))
-          (joined-rest (start .args .r) (made .bytes-of .result) (good .1 .0 .1) (each-owned (start .args .r) (good .0) (good .1 .1)) (made .bytes-of .ensures)),
+          (registerBytes-rest (start .args .r) (made .bytes-of .result) (good .1 .0 .1) (each-owned (start .args .r) (good .0) (good .1 .1)) (made .bytes-of .ensures)),
     )
 
 pub give-key-spec : {M : Type 1} → statement M

@@ -8,10 +8,7 @@ use Rattle.keywrap.proofs.schedule_of.Statement.{statement}
 use Rattle.keywrap.proofs.schedule_of.Tie as tie
 
 returns : tie.Need-returns
-returns c =
-    let put = c .before .before in
-    c .expand-key .ensures ∙ ap schedule (put .put .ensures ∙ over-zeros _ 32 (put .before .before .before .pre))
+returns c = c .expand-key .ensures ∙ ap schedule (c .before .first32 .ensures ∙ over-zeros _ 32 (c .before .before .before .pre))
 
 pub schedule-of-spec : {M : Type 1} → statement M
-schedule-of-spec =
-    tie.close (tie.spec (λ c. search needs) (λ c κs. search needs) (λ c κs. search needs) returns)
+schedule-of-spec = tie.close (tie.spec (λ c κs. search needs) (λ c κs. search needs) returns)

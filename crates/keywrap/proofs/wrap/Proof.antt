@@ -7,7 +7,9 @@ use borrow.Author.Needs.{needs}
 use Prim.Native.Nat.{ℕ}
 use denote.Ref.{now}
 use Rattle.octets.specs.Lent.{isNot}
-use Rattle.keywrap.proofs.Calls.{kek-right, key-right, wrap-keys, wrap-room, wrap-done}
+use Rattle.octets.proofs.Lent.{first-right, second-right}
+use Rattle.keywrap.specs.Calls.{keySize}
+use Rattle.keywrap.proofs.Calls.{wrap-keys, wrap-room, wrap-done}
 use Rattle.keywrap.proofs.wrap.Statement.{statement}
 use Rattle.keywrap.proofs.wrap.Tie as tie
 
@@ -35,7 +37,7 @@ returns-2 c = wrap-room _ _ _ (keys-right (c .before .before .before)) (sym (c .
 wrapped-of-requires : tie.Need-wrapped-of-requires
 wrapped-of-requires c κs =
     let e = first c in
-    (kek-right (kek e) (key e) (keys-right e), key-right (kek e) (key e) (keys-right e))
+    (first-right keySize keySize (kek e) (key e) (keys-right e), second-right keySize keySize (kek e) (key e) (keys-right e))
 
 returns-3 : tie.Need-returns-3
 returns-3 c =

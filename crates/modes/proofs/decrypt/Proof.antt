@@ -21,25 +21,25 @@ tested : (c : tie.After-argument-number)
     → c .argument-number .result
     ≡ (let a = start c .args in
     lowest
-    (argumentTests (wrongSizes (modeOf (a .u)) (a .key .now) (a .iv .now) (a .text .now) || isNot (modeOf (a .u) .tagSize) (a .tag .now)) (a .a .now) (a .b .now) (a .text .now)
-    (length (a .text .now)) (length (a .out .now))))
+    (argumentTests (wrongSizes (modeOf (a .u)) (a .key .now) (a .iv .now) (a .c .now) || isNot (modeOf (a .u) .tagSize) (a .tag .now)) (a .a .now) (a .b .now) (a .c .now)
+    (length (a .c .now)) (length (a .out .now))))
 tested c =
     let a = start c .args in
-    decrypt-tested (modeOf (a .u)) (a .key .now) (a .iv .now) (a .a .now) (a .b .now) (a .text .now) (a .tag .now) (a .out .now)
-    (ap₂ (λ (w : Bool) (n : ℕ). w || not (eqb (length (a .tag .now)) n)) (c .before .before .wrong-sizes .ensures (a .text .now)) (c .before .tag-size .ensures))
+    decrypt-tested (modeOf (a .u)) (a .key .now) (a .iv .now) (a .a .now) (a .b .now) (a .c .now) (a .tag .now) (a .out .now)
+    (ap₂ (λ (w : Bool) (n : ℕ). w || not (eqb (length (a .tag .now)) n)) (c .before .before .wrong-sizes .ensures (a .c .now)) (c .before .tag-size .ensures))
     (c .argument-number .ensures)
 
 returns : tie.Need-returns
 returns c =
     let start = c .before .before .before .before .before .before .before .before .before .before .before in
     let a = start .args in
-    decrypt-refused (modeOf (a .u)) (a .key .now) (a .iv .now) (a .a .now) (a .b .now) (a .text .now) (a .tag .now) (a .out .now) (tested (c .before)) (c .if1 .taken)
+    decrypt-refused (modeOf (a .u)) (a .key .now) (a .iv .now) (a .a .now) (a .b .now) (a .c .now) (a .tag .now) (a .out .now) (tested (c .before)) (c .if1 .taken)
 
 open-requires : tie.Need-open-requires
 open-requires c κs =
     let start = c .before .before .before .before .before .before .before .before .before .before .before .before in
     let a = start .args in
-    decrypt-passed (a .u) (a .key .now) (a .iv .now) (a .a .now) (a .b .now) (a .text .now) (length (a .out .now)) (a .tag .now)
+    decrypt-passed (a .u) (a .key .now) (a .iv .now) (a .a .now) (a .b .now) (a .c .now) (length (a .out .now)) (a .tag .now)
     (sym (tested (c .before .before)) ∙ c .before .if1 .left)
 
 returns-2 : tie.Need-returns-2
@@ -48,7 +48,7 @@ returns-2 c =
     let after-argument-number = else1 .before in
     let start = after-argument-number .before .before .before .before .before .before .before .before .before .before in
     let a = start .args in
-    decrypt-done (modeOf (a .u)) (a .key .now) (a .iv .now) (a .a .now) (a .b .now) (a .text .now) (a .tag .now) (a .out .now) (tested after-argument-number) (else1 .if1 .left)
+    decrypt-done (modeOf (a .u)) (a .key .now) (a .iv .now) (a .a .now) (a .b .now) (a .c .now) (a .tag .now) (a .out .now) (tested after-argument-number) (else1 .if1 .left)
     ∙ c .before .before .open .ensures
 
 pub decrypt-spec : {M : Type 1} → statement M

@@ -1,8 +1,10 @@
 -- `modes::seal` meets its contract: under the schedule of the key, the mode that the byte names.
 -- Assumes nothing.
+use mathlib.Core.Path.{_∙_}
 use mathlib.Core.List.{_++_}
 use borrow.Author.Needs.{needs}
 use Rattle.octets.proofs.Arrays.{array-bytes}
+use Rattle.octets.proofs.Lent.{over-zeros}
 use Rattle.aes_fast.specs.Right.{Ready}
 use Rattle.aes_fast.proofs.Laws.{made-ready}
 use Rattle.modes.proofs.Named.{gcm-sealed, ccm-sealed}
@@ -11,7 +13,7 @@ use Rattle.modes.proofs.seal.Tie as tie
 
 ready : (c : tie.After-expand-key) → Ready (c .before .before .round-tables .result) (c .expand-key .result)
 ready c =
-    let key = c .before .key-of in
+    let key = c .before .first32 in
     made-ready _ _ (key .result) (c .before .before .round-tables .ensures) (c .expand-key .ensures) (array-bytes 32 (key .result) _ (key .ok))
 
 seal-requires : tie.Need-seal-requires
@@ -24,10 +26,11 @@ returns : tie.Need-returns
 returns c =
     let then1 = c .before .before .before .before .before .before in
     let after-expand-key = then1 .before in
-    let after-key-of = after-expand-key .before in
-    let start = after-key-of .before .before .before .before .before .before .before .before in
+    let copied = after-expand-key .before in
+    let start = copied .before .before .before .before .before .before .before .before in
     let a = start .args in
-    gcm-sealed (a .u) (a .key .now) (a .iv .now) (a .a .now ++ a .b .now) (a .plain .now) (a .out .now) (after-expand-key .expand-key .ensures) (after-key-of .key-of .ensures)
+    gcm-sealed (a .u) (a .key .now) (a .iv .now) (a .a .now ++ a .b .now) (a .plain .now) (a .out .now)
+    (after-expand-key .expand-key .ensures) (copied .first32 .ensures ∙ over-zeros (a .key .now) 32 (start .pre .0))
     (then1 .if1 .taken) (c .before .before .seal .ensures)
 
 seal-requires-2 : tie.Need-seal-requires-2
@@ -40,10 +43,11 @@ returns-2 : tie.Need-returns-2
 returns-2 c =
     let else1 = c .before .before .before .before .before .before in
     let after-expand-key = else1 .before in
-    let after-key-of = after-expand-key .before in
-    let start = after-key-of .before .before .before .before .before .before .before .before in
+    let copied = after-expand-key .before in
+    let start = copied .before .before .before .before .before .before .before .before in
     let a = start .args in
-    ccm-sealed (a .u) (a .key .now) (a .iv .now) (a .a .now ++ a .b .now) (a .plain .now) (a .out .now) (after-expand-key .expand-key .ensures) (after-key-of .key-of .ensures)
+    ccm-sealed (a .u) (a .key .now) (a .iv .now) (a .a .now ++ a .b .now) (a .plain .now) (a .out .now)
+    (after-expand-key .expand-key .ensures) (copied .first32 .ensures ∙ over-zeros (a .key .now) 32 (start .pre .0))
     (else1 .if1 .left) (c .before .before .seal2 .ensures)
 
 pub seal-spec : {M : Type 1} → statement M

@@ -5,19 +5,19 @@ use mathlib.Core.Path.{_≡_, refl}
 use Prim.Native.Nat.{_≤_, _-_}
 use native.Mathlib.Omega.{arith}
 use lib.Dec.{lit≤}
-use Rattle.aes.specs.Cipher.{rounds}
+use Rattle.aes.specs.Cipher.{firstRounds}
 use Rattle.aes.proofs.Rounds.{rounds-more}
 use Rattle.aes.proofs.forward.all_rounds.Statement.{statement}
 use Rattle.aes.proofs.forward.all_rounds.Tie as tie
 
 abbrev Inv-loop : tie.InvT-loop
-Inv-loop t ks x₀ i₀ x i = (i ≤ 13) × (x ≡ rounds ks i x₀)
+Inv-loop t ks x₀ i₀ x i = (i ≤ 13) × (x ≡ firstRounds ks i x₀)
 
 abbrev μ-loop : tie.MeasureT-loop
 μ-loop t ks x₀ i₀ x i = 13 - i
 
 loop-holds : tie.Need-loop-holds Inv-loop μ-loop
-unfolding rounds
+unfolding firstRounds
 loop-holds c = (lit≤ tt, refl)
 
 add-one-round : tie.Need-add-one-round Inv-loop μ-loop

@@ -65,12 +65,13 @@ loop-less : tie.Need-loop-less Inv-loop μ-loop
 loop-less c = search needs
 
 loop-again : tie.Need-loop-again Inv-loop μ-loop
-loop-again c = (
-  omega arith,
-  simp length-set (c .before .before .before .before .before .loop .inv .1),
-  extended-more (c .before .before .before .before .before .loop .ks) _ (c .before .before .before .before .before .loop .n) (c .before .before .first-temp .result) (c .next-key .result) (omega arith) (c .before .before .before .before .before .loop .inv .2)
-      (c .before .before .first-temp .ensures) (c .next-key .ensures),
-)
+loop-again c =
+    let l = c .before .before .before .before .before .loop in (
+      omega arith,
+      simp length-set (l .inv .1),
+      extended-more (l .ks) _ (l .n) (c .before .before .first-temp .result) (c .next-key .result) (omega arith) (l .inv .2)
+          (c .before .before .first-temp .ensures) (c .next-key .ensures),
+    )
 
 returns : tie.Need-returns Inv-loop μ-loop
 returns c =

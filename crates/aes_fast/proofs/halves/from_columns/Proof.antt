@@ -2,8 +2,8 @@
 -- Assumes nothing.
 use borrow.Author.Needs.{needs}
 use mathlib.Core.Path.{_∙_}
+use Rattle.octets.proofs.Values.{four}
 use Rattle.aes_fast.specs.Halves.Inside.{columnsOf-is}
-use Rattle.aes_fast.proofs.Columns.{four}
 use Rattle.aes_fast.proofs.halves.from_columns.Statement.{statement}
 use Rattle.aes_fast.proofs.halves.from_columns.Tie as tie
 

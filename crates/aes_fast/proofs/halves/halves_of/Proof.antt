@@ -2,7 +2,7 @@
 -- Assumes nothing.
 use borrow.Author.Needs.{needs}
 use mathlib.Core.Path.{_∙_}
-use Rattle.aes_fast.proofs.Columns.{four}
+use Rattle.octets.proofs.Values.{four}
 use Rattle.aes_fast.proofs.halves.halves_of.Statement.{statement}
 use Rattle.aes_fast.proofs.halves.halves_of.Tie as tie
 
@@ -12,7 +12,7 @@ returns c =
     let third = fourth .before .before in
     let second = third .before .before in
     let first = second .before .before in
-    c .from-columns .ensures ∙ four (first .word .ensures) (second .word2 .ensures) (third .word3 .ensures) (fourth .word4 .ensures)
+    c .from-columns .ensures ∙ four (first .column-word .ensures) (second .column-word2 .ensures) (third .column-word3 .ensures) (fourth .column-word4 .ensures)
 
 pub halves-of-spec : {M : Type 1} → statement M
 halves-of-spec =

@@ -28,7 +28,8 @@ returns c =
     let after1 = after-1 (a .t .now) (a .ks .now) (a .b) x (key1 .halves-of2 .result) y after0 (key1 .halves-of2 .ensures) (one .round .ensures) in
     let after2 = after-2 (a .t .now) (a .ks .now) (a .b) y (key2 .halves-of3 .result) z after1 (key2 .halves-of3 .ensures) (two .round2 .ensures) in
     start-steps (a .t .now) (a .ks .now) (a .b) _ x y z (adds .column-adds .result) after0 after1 after2
-    refl (entry .add-entry .ensures) (adds .column-adds .ensures) (c .add-halves2 .ensures) (omega arith) (omega (arith, c .add-halves2 .ok .1 .1 .0 .1)) (omega (arith, c .add-halves2 .ok .1 .1 .1 .0 .1))
+    refl (entry .add-entry .ensures) (adds .column-adds .ensures) (c .add-halves2 .ensures)
+    (omega arith) (omega (arith, c .add-halves2 .ok .1 .1 .0 .1)) (omega (arith, c .add-halves2 .ok .1 .1 .1 .0 .1))
 
 pub start-of-spec : {M : Type 1} → statement M
 start-of-spec =

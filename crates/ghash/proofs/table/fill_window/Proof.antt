@@ -7,15 +7,15 @@ use native.Mathlib.Omega.{arith}
 use borrow.Author.Needs.{needs}
 use borrow.Author.Tests.{not-true, not-false}
 use Rattle.ghash.specs.Field.{timesX, timesXs}
-use Rattle.ghash.specs.Table.{width}
+use Rattle.ghash.specs.Table.{windowWidth}
 use Rattle.ghash.specs.Words.{val}
 use Rattle.ghash.proofs.Entries.{window-sums, window-four, filled-same, twice}
 use Rattle.ghash.proofs.Windows.{window-kind}
 use Rattle.ghash.proofs.table.fill_window.Statement.{statement}
 use Rattle.ghash.proofs.table.fill_window.Tie as tie
 
-size : (fine t : Bool) → fine ≡ t → 2 ^ width fine ≡ 2 ^ width t
-size fine t e = ap (λ (k : Bool). 2 ^ width k) e
+size : (fine t : Bool) → fine ≡ t → 2 ^ windowWidth fine ≡ 2 ^ windowWidth t
+size fine t e = ap (λ (k : Bool). 2 ^ windowWidth k) e
 
 four : (c : tie.Then1) → c .before .before .args .fine ≡ false
 four c = not-true _ (c .if1 .taken)
@@ -36,9 +36,9 @@ returns c =
     let e = filled .fill-four .ensures in
     let is = sym (four then) in (
       λ f w g.
-          filled-same (ap (λ (k : Bool). a .base + 2 ^ width k) is)
+          filled-same (ap (λ (k : Bool). a .base + 2 ^ windowWidth k) is)
           (e .0 f (window-kind (a .fine) false f (a .base) (val (a .v)) (four then) w) g),
-      (e .1 .0 ∙ ap (λ (k : Bool). timesXs (width k) (val (a .v))) is, e .1 .1),
+      (e .1 .0 ∙ ap (λ (k : Bool). timesXs (windowWidth k) (val (a .v))) is, e .1 .1),
     )
 
 fill-four-requires-2 : tie.Need-fill-four-requires-2
@@ -78,13 +78,13 @@ returns-2 c =
     let e2 : val (v2 .times-x2 .result) ≡ timesXs 2 (val (a .v)) = v2 .times-x2 .ensures ∙ ap timesX e1 in (
       λ f w g.
           let w6 = window-kind (a .fine) true f base v (six else) w in
-          filled-same (twice base 32 64 refl ∙ ap (λ (k : Bool). base + 2 ^ width k) is)
+          filled-same (twice base 32 64 refl ∙ ap (λ (k : Bool). base + 2 ^ windowWidth k) is)
           (second .extend2 .ensures .0 f (window-sums f base 0 5 v v (omega arith) refl w6)
           (filled-same (twice base 16 32 refl)
           (first .extend .ensures .0 f (window-sums f base 1 4 v _ (omega arith) e1 w6)
           (filled .fill-four2 .ensures .0 f (window-four f base v _ e2 w6) g)))),
       (
-        filled .fill-four2 .ensures .1 .0 ∙ ap (timesXs 4) e2 ∙ ap (λ (k : Bool). timesXs (width k) (val (a .v))) is,
+        filled .fill-four2 .ensures .1 .0 ∙ ap (timesXs 4) e2 ∙ ap (λ (k : Bool). timesXs (windowWidth k) (val (a .v))) is,
         second .extend2 .ensures .1 ∙ first .extend .ensures .1 ∙ filled .fill-four2 .ensures .1 .1,
       ),
     )

@@ -7,7 +7,7 @@ use native.Mathlib.Omega.{arith}
 use borrow.Author.Needs.{needs}
 use lib.ListN.{length}
 use Rattle.ghash.specs.Field.{timesXs}
-use Rattle.ghash.specs.Table.{width, windows, entryAt, Filled}
+use Rattle.ghash.specs.Table.{windowWidth, windows, entryAt, Filled}
 use Rattle.ghash.specs.Words.{val}
 use Rattle.ghash.proofs.Entries.{first-window, window-at, filled-none, filled-same, next-window, next-place}
 use Rattle.ghash.proofs.Windows.{windows-all, windows-none, entries-four}
@@ -17,8 +17,8 @@ use Rattle.ghash.proofs.table.fill_word.Tie as tie
 abbrev Inv-loop : tie.InvT-loop
 Inv-loop table₀ fine next₀ k₀ table next k =
     (k ≤ windows fine) × (length table ≡ length table₀)
-    × ((v : ℕ) → val next₀ ≡ timesXs 4 v → Filled (entryAt (width fine) v) table₀ 16
-    → (val next ≡ timesXs (4 + width fine * k) v) × Filled (entryAt (width fine) v) table (16 + k * 2 ^ width fine))
+    × ((v : ℕ) → val next₀ ≡ timesXs 4 v → Filled (entryAt (windowWidth fine) v) table₀ 16
+    → (val next ≡ timesXs (4 + windowWidth fine * k) v) × Filled (entryAt (windowWidth fine) v) table (16 + k * 2 ^ windowWidth fine))
 
 abbrev μ-loop : tie.MeasureT-loop
 μ-loop table₀ fine next₀ k₀ table next k = windows fine - k
@@ -40,7 +40,7 @@ loop-holds c =
       omega arith,
       refl,
       λ v e g.
-          (e ∙ ap (λ (n : ℕ). timesXs n v) (windows-none (width fine) 0 refl), filled-same (ap (λ (n : ℕ). 16 + n) (sym (zero-mul (2 ^ width fine)))) g),
+          (e ∙ ap (λ (n : ℕ). timesXs n v) (windows-none (windowWidth fine) 0 refl), filled-same (ap (λ (n : ℕ). 16 + n) (sym (zero-mul (2 ^ windowWidth fine)))) g),
     )
 
 place-requires : tie.Need-place-requires Inv-loop μ-loop
@@ -65,7 +65,7 @@ loop-again c =
     let count = at .before .before .before in
     let at-loop = count .before in
     let l = at-loop .loop in
-    let b = width (at-loop .before .before .before .before .before .before .args .fine) in
+    let b = windowWidth (at-loop .before .before .before .before .before .before .args .fine) in
     let i = at .place .result in
     let e = filled .fill-window .ensures in (
       omega (arith, count .count .ensures),
@@ -94,9 +94,9 @@ returns c =
     let v = val (a .v) in
     let e = four .fill-four .ensures in
     let k : l .k ≡ windows fine = all _ _ _ (l .inv .0) (c .before .count .ensures) (omega arith) in
-    let end = l .inv .2 v (e .1 .0) (e .0 (entryAt (width fine) v) (first-window (width fine) v) (filled-none _ _)) in (
-      filled-same (ap (λ (n : ℕ). 16 + n * 2 ^ width fine) k) (end .1),
-      (end .0 ∙ ap (λ (n : ℕ). timesXs n v) (ap (λ (n : ℕ). 4 + width fine * n) k ∙ windows-all fine), l .inv .1 ∙ e .1 .1),
+    let end = l .inv .2 v (e .1 .0) (e .0 (entryAt (windowWidth fine) v) (first-window (windowWidth fine) v) (filled-none _ _)) in (
+      filled-same (ap (λ (n : ℕ). 16 + n * 2 ^ windowWidth fine) k) (end .1),
+      (end .0 ∙ ap (λ (n : ℕ). timesXs n v) (ap (λ (n : ℕ). 4 + windowWidth fine * n) k ∙ windows-all fine), l .inv .1 ∙ e .1 .1),
     )
 
 pub fill-word-spec : {M : Type 1} → statement M

@@ -6,7 +6,7 @@ use Prim.Native.Nat.{ℕ, _+_, _*_, _-_, _≤_, _<_}
 use native.Mathlib.Omega.{arith}
 use borrow.Author.Needs.{needs}
 use lib.Bits.{bitXor, xor-zero-l}
-use Rattle.ghash.specs.Table.{adds, width, windows, WordTable}
+use Rattle.ghash.specs.Table.{adds, windowWidth, windows, WordTable}
 use Rattle.ghash.specs.Words.{val}
 use Rattle.ghash.proofs.Entries.{word-turn, word-end}
 use Rattle.ghash.proofs.Windows.{windows-all, windows-none, entries-four, entries-few}
@@ -26,14 +26,14 @@ fits i e l h k = omega arith
 abbrev Inv-loop : tie.InvT-loop
 Inv-loop table w fine sum₀ left₀ k₀ sum left k =
     (k ≤ windows fine)
-    × ((v : ℕ) → WordTable fine v table → bitXor (val sum) (adds (4 + width fine * k) v left) ≡ adds 64 v left₀)
+    × ((v : ℕ) → WordTable fine v table → bitXor (val sum) (adds (4 + windowWidth fine * k) v left) ≡ adds 64 v left₀)
 
 abbrev μ-loop : tie.MeasureT-loop
 μ-loop table w fine sum₀ left₀ k₀ sum left k = k
 
 -- before the first turn
-start : (fine : Bool) (k v w : ℕ) → k ≡ windows fine → bitXor 0 (adds (4 + width fine * k) v w) ≡ adds 64 v w
-start fine k v w e = xor-zero-l _ ∙ ap (λ (n : ℕ). adds n v w) (ap (λ (n : ℕ). 4 + width fine * n) e ∙ windows-all fine)
+start : (fine : Bool) (k v w : ℕ) → k ≡ windows fine → bitXor 0 (adds (4 + windowWidth fine * k) v w) ≡ adds 64 v w
+start fine k v w e = xor-zero-l _ ∙ ap (λ (n : ℕ). adds n v w) (ap (λ (n : ℕ). 4 + windowWidth fine * n) e ∙ windows-all fine)
 
 loop-holds : tie.Need-loop-holds Inv-loop μ-loop
 loop-holds c =
@@ -62,7 +62,7 @@ loop-again c =
     let at-loop = at .before .before in
     let l = at-loop .loop in
     let fine = at-loop .before .before .before .args .fine in
-    let b = width fine in
+    let b = windowWidth fine in
     let k = l .k - 1 in
     let i = at .place .result + last .last-window .result in (
       omega (arith, l .inv .0),
@@ -90,9 +90,9 @@ returns c = λ v t.
     let l = at-loop .loop in
     let fine = at-loop .before .before .before .args .fine in
     let i = last .last-window2 .result in
-    word-end (width fine) v (l .left) (val (l .sum)) (val (c .add-wide2 .result)) i (last .last-window2 .ensures .0) (last .last-window2 .ensures .1)
+    word-end (windowWidth fine) v (l .left) (val (l .sum)) (val (c .add-wide2 .result)) i (last .last-window2 .ensures .0) (last .last-window2 .ensures .1)
     (c .add-wide2 .ensures .0 ∙ ap (bitXor (val (l .sum))) (read .read-entry2 .ensures ∙ t .at i (omega (arith, last .last-window2 .ensures .1, entries-four fine))))
-    ∙ ap (λ (n : ℕ). bitXor (val (l .sum)) (adds n v (l .left))) (windows-none (width fine) (l .k) (omega arith))
+    ∙ ap (λ (n : ℕ). bitXor (val (l .sum)) (adds n v (l .left))) (windows-none (windowWidth fine) (l .k) (omega arith))
     ∙ l .inv .1 v t
 
 pub sum-word-spec : {M : Type 1} → statement M

@@ -13,7 +13,7 @@ returns : tie.Need-returns
 unfolding blockOf
 returns c =
     let a = c .before .before .before .args in
-    ap₂ (λ (s t : List ℕ). s ++ t) (c .before .word-at .ensures) (c .word-at2 .ensures) ∙ block-at (a .s .now) (a .i)
+    ap₂ (λ (s t : List ℕ). s ++ t) (c .before .word64-at .ensures) (c .word64-at2 .ensures) ∙ block-at (a .s .now) (a .i)
 
 pub wide-at-spec : {M : Type 1} → statement M
 wide-at-spec = tie.close (tie.spec (λ c κs. search needs) (λ c. search needs) (λ c κs. search needs) returns)

@@ -5,13 +5,13 @@ use borrow.Author.Needs.{needs}
 use Prim.Native.Nat.{_≤_, _-_}
 use native.Mathlib.Omega.{arith}
 use lib.ListN.{length, take, length-set}
-use Rattle.keywrap.specs.Wrap.{joined}
-use Rattle.keywrap.proofs.Parts.{Eight, Each, each-owned, joined-turn, joined-end}
+use Rattle.keywrap.specs.Wrap.{registerBytes}
+use Rattle.keywrap.proofs.Parts.{Eight, Each, each-owned, registerBytes-turn, registerBytes-end}
 use Rattle.keywrap.proofs.register.bytes_of.Statement.{statement}
 use Rattle.keywrap.proofs.register.bytes_of.Tie as tie
 
 abbrev Inv-loop : tie.InvT-loop
-Inv-loop r s₀ i₀ s i = (i ≤ 40) × (length s ≡ 40) × (take i s ≡ take i (joined r))
+Inv-loop r s₀ i₀ s i = (i ≤ 40) × (length s ≡ 40) × (take i s ≡ take i (registerBytes r))
 
 abbrev μ-loop : tie.MeasureT-loop
 μ-loop r s₀ i₀ s i = 40 - i
@@ -29,14 +29,14 @@ loop-again : tie.Need-loop-again Inv-loop μ-loop
 loop-again c =
     let l = c .before .before .loop in
     let start = c .before .before .before in
-    (omega arith, simp length-set (l .inv .1), joined-turn (start .args .t1) (l .s) (l .i) (five start) (eight start) (l .inv .1) (omega arith) (l .inv .2))
+    (omega arith, simp length-set (l .inv .1), registerBytes-turn (start .args .t1) (l .s) (l .i) (five start) (eight start) (l .inv .1) (omega arith) (l .inv .2))
 
 returns : tie.Need-returns Inv-loop μ-loop
 returns c =
     let l = c .before .loop in
     let start = c .before .before in
     let done : l .i ≡ 40 = omega arith in
-    joined-end (start .args .t1) (l .s) (five start) (eight start) (l .inv .1) (rw done at (l .inv .2))
+    registerBytes-end (start .args .t1) (l .s) (five start) (eight start) (l .inv .1) (rw done at (l .inv .2))
 
 pub bytes-of-spec : {M : Type 1} → statement M
 bytes-of-spec =

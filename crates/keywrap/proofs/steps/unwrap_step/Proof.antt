@@ -11,9 +11,9 @@ returns c =
     let ran = halved .before .before in
     let xored = ran .before .before .before in
     let placed = xored .before .before .before in
-    unwrapStep-made _ _ _ _ (ran .before .block .result) (ran .decrypt .result) (xored .before .bytes64 .result) _ _ (placed .part-at .ensures .0)
-    (xored .before .bytes64 .ensures) (xored .xor-parts .result) (xored .xor-parts .ensures) (ran .before .block .ensures) (ran .decrypt .ensures)
-    (halved .part .ensures) (c .part2 .ensures)
+    unwrapStep-made _ _ _ _ (ran .before .two-eights .result) (ran .decrypt .result) (xored .before .bytes64 .result) _ _ (placed .part-at .ensures .0)
+    (xored .before .bytes64 .ensures) (xored .xor-parts .result) (xored .xor-parts .ensures) (ran .before .two-eights .ensures) (ran .decrypt .ensures)
+    (halved .eight-at .ensures) (c .eight-at2 .ensures)
 
 pub unwrap-step-spec : {M : Type 1} → statement M
 unwrap-step-spec =

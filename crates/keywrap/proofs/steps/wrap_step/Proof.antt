@@ -14,9 +14,9 @@ returns c =
     let xored = c .before .before in
     let ran = xored .before .before .before .before in
     let placed = ran .before .before .before .before in
-    wrapStep-made _ _ _ _ (ran .before .block .result) (ran .encrypt .result) (xored .before .bytes64 .result) _ _ (placed .part-at .ensures .0)
-    (xored .before .bytes64 .ensures) (ran .before .block .ensures) (ran .encrypt .ensures)
-    (xored .xor-parts .ensures ∙ ap (λ (l : List ℕ). xors l (xored .before .bytes64 .result)) (xored .before .before .part .ensures)) (c .part2 .ensures)
+    wrapStep-made _ _ _ _ (ran .before .two-eights .result) (ran .encrypt .result) (xored .before .bytes64 .result) _ _ (placed .part-at .ensures .0)
+    (xored .before .bytes64 .ensures) (ran .before .two-eights .ensures) (ran .encrypt .ensures)
+    (xored .xor-parts .ensures ∙ ap (λ (l : List ℕ). xors l (xored .before .bytes64 .result)) (xored .before .before .eight-at .ensures)) (c .eight-at2 .ensures)
 
 pub wrap-step-spec : {M : Type 1} → statement M
 wrap-step-spec =

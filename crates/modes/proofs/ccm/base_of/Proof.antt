@@ -1,6 +1,6 @@
 -- `modes::ccm::base_of` meets its contract: the nonce after the flags, over zeros.
 -- Assumes nothing.
-use Rattle.modes.proofs.Formatted.{front-stored}
+use Rattle.modes.proofs.CcmFormat.{front-stored}
 use borrow.Author.Needs.{needs}
 use Rattle.modes.proofs.ccm.base_of.Statement.{statement}
 use Rattle.modes.proofs.ccm.base_of.Tie as tie

@@ -3,7 +3,7 @@
 use borrow.Author.Needs.{needs}
 use Rattle.aes.specs.Cipher.{cipher}
 use Rattle.aes.proofs.Laws.{cipher-length}
-use Rattle.modes.proofs.Formatted.{data-none, data-steps}
+use Rattle.modes.proofs.CcmFormat.{data-none, data-steps}
 use Rattle.modes.proofs.ccm.chain_data.Statement.{statement}
 use Rattle.modes.proofs.ccm.chain_data.Tie as tie
 

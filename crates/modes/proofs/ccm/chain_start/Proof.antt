@@ -9,7 +9,7 @@ use Rattle.octets.specs.Blocks.{chain}
 use Rattle.aes.specs.Cipher.{cipher}
 use Rattle.modes.specs.Counter.{frontOf}
 use Rattle.modes.specs.Ccm.{dataBlocks}
-use Rattle.modes.proofs.Formatted.{firstBlock-parts}
+use Rattle.modes.proofs.CcmFormat.{firstBlock-parts}
 use borrow.Author.Needs.{needs}
 use Rattle.modes.proofs.ccm.chain_start.Statement.{statement}
 use Rattle.modes.proofs.ccm.chain_start.Tie as tie

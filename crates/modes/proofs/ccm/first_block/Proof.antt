@@ -4,7 +4,7 @@ use mathlib.Core.Path.{ap₂, _∙_}
 use mathlib.Core.List.{List}
 use Prim.Native.Nat.{ℕ}
 use lib.ListN.{set}
-use Rattle.modes.proofs.Formatted.{first-stored}
+use Rattle.modes.proofs.CcmFormat.{first-stored}
 use borrow.Author.Needs.{needs}
 use Rattle.modes.proofs.ccm.first_block.Statement.{statement}
 use Rattle.modes.proofs.ccm.first_block.Tie as tie

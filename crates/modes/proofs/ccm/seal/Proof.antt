@@ -5,7 +5,7 @@ use native.Mathlib.Omega.{arith}
 use borrow.Author.Needs.{needs}
 use Rattle.aes.specs.Cipher.{cipher}
 use Rattle.aes.proofs.Laws.{cipher-length}
-use Rattle.modes.proofs.Formatted.{sealed-steps}
+use Rattle.modes.proofs.CcmFormat.{sealed-steps}
 use Rattle.modes.proofs.ccm.seal.Statement.{statement}
 use Rattle.modes.proofs.ccm.seal.Tie as tie
 

@@ -8,7 +8,7 @@ use lib.ListN.{take, drop}
 use Rattle.octets.specs.Xor.{xors}
 use Rattle.aes_fast.specs.Halves.{halvesBlock}
 use Rattle.aes_fast.proofs.Laws.{halves-length, block-at-whole}
-use Rattle.modes.proofs.Written.{block-put}
+use Rattle.octets.proofs.Written.{block-put}
 use Rattle.modes.proofs.counter.add_at.Statement.{statement}
 use Rattle.modes.proofs.counter.add_at.Tie as tie
 

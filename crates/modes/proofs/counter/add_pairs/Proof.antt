@@ -12,7 +12,7 @@ use Rattle.modes.specs.Counter.{width, frontOf}
 use Rattle.modes.specs.Pads.{Serves}
 use Rattle.modes.proofs.Limits.{pair-within, pair-even, pair-same}
 use Rattle.modes.proofs.Stream.{Partly, partly-start, partly-room, partly-rest, partly-block, partly-last, length-ctr}
-use Rattle.modes.proofs.Grouped.{serves-also}
+use Rattle.modes.proofs.Pads.{serves-also}
 use Rattle.modes.proofs.counter.add_pairs.Statement.{statement}
 use Rattle.modes.proofs.counter.add_pairs.Tie as tie
 

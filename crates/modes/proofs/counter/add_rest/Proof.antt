@@ -11,7 +11,7 @@ use Rattle.aes.specs.Cipher.{cipher}
 use Rattle.aes.proofs.Laws.{cipher-length}
 use Rattle.modes.specs.Counter.{width, frontOf}
 use Rattle.modes.proofs.Limits.{least-inside, least-short, least-whole, least-left}
-use Rattle.modes.proofs.Written.{part-length}
+use Rattle.octets.proofs.Written.{part-length}
 use Rattle.modes.proofs.Stream.{rest-room, parts-over, length-ctr}
 use Rattle.modes.proofs.counter.add_rest.Statement.{statement}
 use Rattle.modes.proofs.counter.add_rest.Tie as tie

@@ -6,9 +6,9 @@ use Rattle.octets.specs.Xor.{xors}
 use Rattle.aes.specs.Cipher.{cipher}
 use Rattle.aes.proofs.Laws.{cipher-length}
 use Rattle.modes.specs.Counter.{width, frontOf}
-use Rattle.modes.proofs.Written.{summed-put}
+use Rattle.octets.proofs.Written.{summed-put}
 use Rattle.modes.proofs.Stream.{ctr-last}
-use Rattle.modes.proofs.Beside.{none-written}
+use Rattle.modes.proofs.Stream.{none-written}
 use Rattle.modes.proofs.counter.add_single.Statement.{statement}
 use Rattle.modes.proofs.counter.add_single.Tie as tie
 

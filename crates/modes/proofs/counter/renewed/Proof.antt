@@ -3,7 +3,7 @@
 use native.Mathlib.Omega.{arith}
 use borrow.Author.Needs.{needs}
 use Prim.Native.Nat.{_+_}
-use Rattle.modes.proofs.Grouped.{serves-also}
+use Rattle.modes.proofs.Pads.{serves-also}
 use Rattle.modes.proofs.counter.renewed.Statement.{statement}
 use Rattle.modes.proofs.counter.renewed.Tie as tie
 

@@ -2,7 +2,7 @@
 -- Assumes nothing.
 use borrow.Author.Needs.{needs}
 use Rattle.octets.proofs.Arrays.{array-bytes}
-use Rattle.modes.proofs.Grouped.{start-serves}
+use Rattle.modes.proofs.Pads.{start-serves}
 use Rattle.modes.proofs.counter.start_at.Statement.{statement}
 use Rattle.modes.proofs.counter.start_at.Tie as tie
 

@@ -7,7 +7,7 @@ use native.Mathlib.Omega.{arith}
 use borrow.Author.Needs.{needs}
 use lib.ListN.{length, take, drop, replicate}
 use Rattle.octets.specs.Xor.{xors}
-use Rattle.modes.proofs.Written.{summed-turn, summed-end}
+use Rattle.octets.proofs.Written.{summed-turn, summed-end}
 use Rattle.modes.proofs.counter.summed.Statement.{statement}
 use Rattle.modes.proofs.counter.summed.Tie as tie
 

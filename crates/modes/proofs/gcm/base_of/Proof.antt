@@ -1,19 +1,15 @@
 -- `modes::gcm::base_of` meets its contract: the IV over zeros.
 -- Assumes nothing.
 use mathlib.Core.Path.{_∙_}
-use Rattle.modes.proofs.Tagged.{base-stored}
+use Rattle.modes.proofs.GcmTagged.{base-stored}
 use borrow.Author.Needs.{needs}
 use Rattle.modes.proofs.gcm.base_of.Statement.{statement}
 use Rattle.modes.proofs.gcm.base_of.Tie as tie
 
 returns : tie.Need-returns
 returns c =
-    let start = c .before .before .before .before in
-    c .before .put .ensures ∙ base-stored (start .args .iv .now) (start .pre)
+    let start = c .before .before in
+    c .first16 .ensures ∙ base-stored (start .args .iv .now) (start .pre)
 
 pub base-of-spec : {M : Type 1} → statement M
-base-of-spec =
-    tie.close
-    (tie.spec
-    (λ c. search needs) (λ c κs. search needs)
-    returns)
+base-of-spec = tie.close (tie.spec (λ c κs. search needs) returns)

@@ -4,7 +4,7 @@ use mathlib.Core.Path.{_∙_}
 use Prim.Native.Nat.{_*_}
 use native.Mathlib.Omega.{arith}
 use borrow.Author.Needs.{needs}
-use Rattle.modes.proofs.Tagged.{lengths-stored}
+use Rattle.modes.proofs.GcmTagged.{lengths-stored}
 use Rattle.modes.proofs.gcm.lengths_block.Statement.{statement}
 use Rattle.modes.proofs.gcm.lengths_block.Tie as tie
 

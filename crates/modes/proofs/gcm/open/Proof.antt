@@ -9,17 +9,17 @@ use lib.Dec.{lit≤}
 use Rattle.octets.specs.Lent.{lowest}
 use Rattle.aes.specs.Cipher.{cipher}
 use Rattle.aes.proofs.Laws.{cipher-length}
-use Rattle.modes.specs.Calls.{tagTests}
-use Rattle.modes.specs.Gcm.{text, tagRight}
+use Rattle.modes.specs.Calls.{authenticTests}
+use Rattle.modes.specs.Gcm.{gcmText, gcmTagRight}
 use Rattle.modes.proofs.Numbers.{answer-refusal, answer-passed}
-use Rattle.modes.proofs.Tagged.{opened-number, text-written}
+use Rattle.modes.proofs.GcmTagged.{opened-number, text-written}
 use Rattle.modes.proofs.gcm.open.Statement.{statement}
 use Rattle.modes.proofs.gcm.open.Tie as tie
 
 tested : (c : tie.After-tag-number)
     → c .tag-number .result
     ≡ (let a = c .before .before .before .before .before .before .before .before .before .before .args in
-    lowest (tagTests (tagRight (cipher (a .ks .now)) (a .iv .now) (a .a .now ++ a .b .now) (a .c .now) (a .tag .now))))
+    lowest (authenticTests (gcmTagRight (cipher (a .ks .now)) (a .iv .now) (a .a .now ++ a .b .now) (a .c .now) (a .tag .now))))
 tested c =
     let tagged = c .before .before in
     let based = tagged .before in
@@ -32,12 +32,12 @@ returns : tie.Need-returns
 returns c =
     let start = c .before .before .before .before .before .before .before .before .before .before .before in
     let a = start .args in
-    answer-refusal (text (cipher (a .ks .now)) (a .iv .now) (a .c .now)) (a .out .now) (tested (c .before)) (λ e. omega arith)
+    answer-refusal (gcmText (cipher (a .ks .now)) (a .iv .now) (a .c .now)) (a .out .now) (tested (c .before)) (λ e. omega arith)
 
 counter-requires : tie.Need-counter-requires
 counter-requires c κs =
     let start = c .before .before .before .before .before .before .before .before .before .before .before .before in
-    (start .pre .0, start .pre .4, lit≤ tt)
+    (start .pre .0, start .pre .5, lit≤ tt)
 
 returns-2 : tie.Need-returns-2
 returns-2 c =
@@ -45,7 +45,7 @@ returns-2 c =
     let after-base-of = after-tag-number .before .before .before in
     let start = after-base-of .before .before .before .before .before .before .before in
     let a = start .args in
-    answer-passed (text (cipher (a .ks .now)) (a .iv .now) (a .c .now)) (a .out .now) (tested after-tag-number) (omega arith)
+    answer-passed (gcmText (cipher (a .ks .now)) (a .iv .now) (a .c .now)) (a .out .now) (tested after-tag-number) (omega arith)
     (text-written (cipher (a .ks .now)) (cipher-length (a .ks .now)) (a .iv .now) (a .a .now ++ a .b .now) (start .pre .1) (after-base-of .base-of .ensures)
     (a .c .now) (a .out .now) (start .pre .3) (c .before .before .counter .ensures))
 

@@ -6,7 +6,7 @@ use borrow.Author.Needs.{needs}
 use lib.ListN.{length-take}
 use Rattle.aes.specs.Cipher.{cipher}
 use Rattle.aes.proofs.Laws.{cipher-length}
-use Rattle.modes.proofs.Tagged.{sealed-steps}
+use Rattle.modes.proofs.GcmTagged.{sealed-steps}
 use Rattle.modes.proofs.gcm.seal.Statement.{statement}
 use Rattle.modes.proofs.gcm.seal.Tie as tie
 

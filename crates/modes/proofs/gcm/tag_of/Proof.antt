@@ -3,7 +3,7 @@
 use mathlib.Core.Bool.{true}
 use Rattle.aes.specs.Cipher.{cipher}
 use Rattle.modes.specs.Counter.{frontOf}
-use Rattle.modes.proofs.Tagged.{tag-steps}
+use Rattle.modes.proofs.GcmTagged.{tag-steps}
 use borrow.Author.Needs.{needs}
 use Rattle.modes.proofs.gcm.tag_of.Statement.{statement}
 use Rattle.modes.proofs.gcm.tag_of.Tie as tie

@@ -17,8 +17,8 @@ use Rattle.aes_fast.proofs.Laws.{block-at-whole}
 use Rattle.modes.specs.Counter.{counterBlock, ctr, frontOf}
 use Rattle.modes.specs.Pads.{Serves}
 use Rattle.modes.proofs.Limits.{block-within}
-use Rattle.modes.proofs.Written.{part-length}
-use Rattle.modes.proofs.Opened.{opened-turn}
+use Rattle.octets.proofs.Written.{part-length}
+use Rattle.modes.proofs.CcmOpened.{opened-turn}
 use Rattle.modes.proofs.passes.chain_opened.Statement.{statement}
 use Rattle.modes.proofs.passes.chain_opened.Tie as tie
 

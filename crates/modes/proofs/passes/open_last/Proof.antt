@@ -7,7 +7,7 @@ use borrow.Author.Needs.{needs}
 use Rattle.aes.specs.Cipher.{cipher}
 use Rattle.aes.proofs.Laws.{cipher-length}
 use Rattle.modes.specs.Counter.{frontOf}
-use Rattle.modes.proofs.Opened.{opened-none, opened-last}
+use Rattle.modes.proofs.CcmOpened.{opened-none, opened-last}
 use Rattle.modes.proofs.passes.open_last.Statement.{statement}
 use Rattle.modes.proofs.passes.open_last.Tie as tie
 

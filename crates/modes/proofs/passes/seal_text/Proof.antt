@@ -9,6 +9,7 @@ use borrow.Author.Needs.{needs}
 use lib.ListN.{length, drop}
 use Rattle.octets.specs.Blocks.{cut, chain}
 use Rattle.octets.proofs.Tests.{rest-all}
+use Rattle.octets.proofs.Blocks.{chain-turn}
 use Rattle.aes.specs.Cipher.{cipher}
 use Rattle.aes.proofs.Laws.{cipher-length}
 use Rattle.aes_fast.specs.Halves.{halvesBlock}
@@ -16,7 +17,6 @@ use Rattle.modes.specs.Counter.{frontOf}
 use Rattle.modes.specs.Pads.{Serves}
 use Rattle.modes.proofs.Limits.{block-within}
 use Rattle.modes.proofs.Stream.{Partly, partly-start, partly-room, partly-rest, partly-block, partly-last}
-use Rattle.modes.proofs.Beside.{chain-turn}
 use Rattle.modes.proofs.passes.seal_text.Statement.{statement}
 use Rattle.modes.proofs.passes.seal_text.Tie as tie
 

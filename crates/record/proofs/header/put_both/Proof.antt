@@ -1,6 +1,7 @@
 -- `record::header::put_both` meets its contract.
 -- Assumes nothing.
 use mathlib.Core.Path.{refl}
+use native.Mathlib.Omega.{arith}
 use lib.ListN.{length}
 use Rattle.octets.proofs.Lent.{over-then}
 use borrow.Author.Needs.{needs}
@@ -13,7 +14,7 @@ returns c =
     let first = second .before .before .before .before in
     let start = first .before .before .before .before .before in
     let a = start .args in
-    over-then (a .first .now) (a .second .now) (a .out .now) _ _ (length (a .first .now)) refl (start .pre) (first .put .ensures) (second .put2 .ensures)
+    over-then (a .first .now) (a .second .now) (a .out .now) _ _ (length (a .first .now)) refl (omega (arith, start .pre)) (first .put .ensures) (second .put2 .ensures)
 
 pub put-both-spec : {M : Type 1} → statement M
 put-both-spec =

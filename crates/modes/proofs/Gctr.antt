@@ -87,9 +87,6 @@ module _ (iv : List ℕ) (size : length iv ≡ 12) where
     gctr-counted i fits =
         ap (λ (bs : List (List ℕ)). xors s (stream f bs)) (counterBlocks-values i (blocks (length s)) (leb-true (i + blocks (length s)) (2 ^ 32) fits))
 
-    -- the text's stream, and the tag's
+    -- the text's stream
     pub gctr-two : counterFits 4 2 (length s) ≡ true → gctr f (inc32 (preCounter iv)) s ≡ ctr f 4 iv 2 s
     gctr-two fits = ap (λ (cb : List ℕ). gctr f cb s) (inc32-next 1 (omega arith)) ∙ gctr-counted 2 fits
-
-    pub gctr-one : counterFits 4 1 (length s) ≡ true → gctr f (preCounter iv) s ≡ ctr f 4 iv 1 s
-    gctr-one = gctr-counted 1

@@ -18,13 +18,13 @@ use Rattle.octets.specs.Blocks.{cut}
 use Rattle.octets.proofs.Lent.{over-fits, over-front, over-then}
 use Rattle.octets.proofs.Bytes.{bytes-append, bytes-take}
 use Rattle.octets.proofs.BigEndian.{bytes-be, be-append}
-use Rattle.ghash.specs.Ghash.{zeros, ghash}
+use Rattle.ghash.specs.Ghash.{zeroBlock, ghash}
 use Rattle.ghash.proofs.Laws.{ghash-length}
 use Rattle.modes.specs.Counter.{counterBlock, ctr, counterAnswer, frontOf}
-use Rattle.modes.specs.Gcm.{inc32, hashKey, preCounter, text, lengthsBlock, tagOf, tagRight}
-use Rattle.modes.specs.Calls.{textMax, tagTests}
+use Rattle.modes.specs.Gcm.{inc32, hashKey, preCounter, gcmText, lengthsBlock, gcmTag, gcmTagRight}
+use Rattle.modes.specs.Calls.{textMax, authenticTests}
 use Rattle.modes.proofs.Limits.{counterFits-four, counterAnswer-fits}
-use Rattle.modes.proofs.Counted.{gctr-block, length-gctr, gctr-gctr, bytes-gctr, gctr-two}
+use Rattle.modes.proofs.Gctr.{gctr-block, length-gctr, gctr-gctr, bytes-gctr, gctr-two}
 
 -- ---- the counter blocks' front, and the block of lengths
 
@@ -52,12 +52,12 @@ module _ (f : List ℕ → List ℕ) where
   hashed a c = ghash (hashKey f) (cut a ++ (cut c ++ (lengthsBlock a c ∷ [])))
 
   length-hashed : (a c : List ℕ) → length (hashed a c) ≡ 16
-  length-hashed a c = ghash-length (hashKey f) zeros (cut a ++ (cut c ++ (lengthsBlock a c ∷ []))) refl
+  length-hashed a c = ghash-length (hashKey f) zeroBlock (cut a ++ (cut c ++ (lengthsBlock a c ∷ []))) refl
 
   -- the hash key h, the block of lengths, the hash s, the pad of counter 1 and the sum
   pub tag-steps : (iv a b c : List ℕ) {h last s block pad r : List ℕ} → h ≡ hashKey f → last ≡ be 8 (8 * (length a + length b)) ++ be 8 (8 * length c)
-      → s ≡ ghash h (cut (a ++ b) ++ (cut c ++ (last ∷ []))) → block ≡ counterBlock 4 iv 1 → pad ≡ f block → r ≡ xors s pad → r ≡ tagOf f iv (a ++ b) c
-  unfolding tagOf
+      → s ≡ ghash h (cut (a ++ b) ++ (cut c ++ (last ∷ []))) → block ≡ counterBlock 4 iv 1 → pad ≡ f block → r ≡ xors s pad → r ≡ gcmTag f iv (a ++ b) c
+  unfolding gcmTag
   tag-steps iv a b c eh el es eb ep er =
       er
       ∙ ap₂ xors
@@ -70,21 +70,21 @@ module _ (f : List ℕ → List ℕ) where
   -- ---- lengths, and the text twice
 
   module _ (size : (x : List ℕ) → length (f x) ≡ 16) (iv : List ℕ) where
-    pub length-text : (s : List ℕ) → length (text f iv s) ≡ length s
-    unfolding text
-    length-text s = length-gctr f (inc32 (preCounter iv)) size s
+    pub length-gcmText : (s : List ℕ) → length (gcmText f iv s) ≡ length s
+    unfolding gcmText
+    length-gcmText s = length-gctr f (inc32 (preCounter iv)) size s
 
-    pub text-text : (s : List ℕ) → text f iv (text f iv s) ≡ s
-    unfolding text
-    text-text s = gctr-gctr f (inc32 (preCounter iv)) size s
+    pub gcmText-twice : (s : List ℕ) → gcmText f iv (gcmText f iv s) ≡ s
+    unfolding gcmText
+    gcmText-twice s = gctr-gctr f (inc32 (preCounter iv)) size s
 
-    pub bytes-text : ((x : List ℕ) → Bytes x → Bytes (f x)) → {s : List ℕ} → Bytes iv → Bytes s → Bytes (text f iv s)
-    unfolding text inc32
-    bytes-text bytes hv = bytes-gctr f (inc32 (preCounter iv)) bytes (bytes-append (bytes-take 12 (bytes-append hv (bytes-be 4 1))) (bytes-be 4 _))
+    pub bytes-gcmText : ((x : List ℕ) → Bytes x → Bytes (f x)) → {s : List ℕ} → Bytes iv → Bytes s → Bytes (gcmText f iv s)
+    unfolding gcmText inc32
+    bytes-gcmText bytes hv = bytes-gctr f (inc32 (preCounter iv)) bytes (bytes-append (bytes-take 12 (bytes-append hv (bytes-be 4 1))) (bytes-be 4 _))
 
-    pub length-tagOf : (a c : List ℕ) → length (tagOf f iv a c) ≡ 16
-    unfolding tagOf
-    length-tagOf a c = length-gctr f (preCounter iv) size (hashed a c) ∙ length-hashed a c
+    pub length-gcmTag : (a c : List ℕ) → length (gcmTag f iv a c) ≡ 16
+    unfolding gcmTag
+    length-gcmTag a c = length-gctr f (preCounter iv) size (hashed a c) ∙ length-hashed a c
 
 -- ---- from the counter blocks' front as the code has it
 
@@ -92,12 +92,12 @@ module _ (f : List ℕ → List ℕ) (size : (x : List ℕ) → length (f x) ≡
   front-is : frontOf true base ≡ iv
   front-is = ap (frontOf true) eb ∙ front-base iv h
 
-  text-counted : (s : List ℕ) → length s ≤ textMax → text f iv s ≡ ctr f 4 (frontOf true base) 2 s
-  unfolding text
+  text-counted : (s : List ℕ) → length s ≤ textMax → gcmText f iv s ≡ ctr f 4 (frontOf true base) 2 s
+  unfolding gcmText
   text-counted s short = gctr-two iv h f s (counterFits-four 2 (length s) (lit≤ tt) short) ∙ ap (λ (l : List ℕ). ctr f 4 l 2 s) (sym front-is)
 
   -- its text is written where its counters fit
-  pub text-written : (c out : List ℕ) {x : ℕ × List ℕ} → length c ≤ textMax → counterAnswer f 4 (frontOf true base) 2 c out ≡ x → answer 0 (text f iv c) out ≡ x
+  pub text-written : (c out : List ℕ) {x : ℕ × List ℕ} → length c ≤ textMax → counterAnswer f 4 (frontOf true base) 2 c out ≡ x → answer 0 (gcmText f iv c) out ≡ x
   text-written c out short ran =
       ap (λ (s : List ℕ). (0, over s out)) (text-counted c short)
       ∙ sym (counterAnswer-fits f 4 (frontOf true base) 2 c out (counterFits-four 2 (length c) (lit≤ tt) short))
@@ -105,27 +105,27 @@ module _ (f : List ℕ → List ℕ) (size : (x : List ℕ) → length (f x) ≡
 
   -- the ciphertext over the front of the output, with the number n of its counters, and its tag after it
   pub sealed-steps : (p out : List ℕ) {tag out₁ ys : List ℕ} {n : ℕ} → length p ≤ textMax → length p + 16 ≤ length out
-      → counterAnswer f 4 (frontOf true base) 2 p out ≡ (n, out₁) → tag ≡ tagOf f (frontOf true base) a (take (length p) out₁)
+      → counterAnswer f 4 (frontOf true base) 2 p out ≡ (n, out₁) → tag ≡ gcmTag f (frontOf true base) a (take (length p) out₁)
       → ys ≡ over tag (take (length out₁ - length p) (drop (length p) out₁))
-      → answer 0 (text f iv p ++ tagOf f iv a (text f iv p)) out ≡ (n, take (length p) out₁ ++ (ys ++ drop (length out₁ - length p) (drop (length p) out₁)))
+      → answer 0 (gcmText f iv p ++ gcmTag f iv a (gcmText f iv p)) out ≡ (n, take (length p) out₁ ++ (ys ++ drop (length out₁ - length p) (drop (length p) out₁)))
   sealed-steps p out {tag} {out₁} {ys} {n} short fits ran et es =
       ap₂ (λ (k : ℕ) (l : List ℕ). (k, l)) (ap (λ (x : ℕ × List ℕ). x .0) counted)
       (sym
-      (over-then (text f iv p) (tagOf f iv a (text f iv p)) out out₁ ys (length p) (length-text f size iv p)
-      (omega (arith, length-tagOf f size iv a (text f iv p))) first
+      (over-then (gcmText f iv p) (gcmTag f iv a (gcmText f iv p)) out out₁ ys (length p) (length-gcmText f size iv p)
+      (omega (arith, length-gcmTag f size iv a (gcmText f iv p))) first
       (es ∙ ap (λ (t : List ℕ). over t (take (length out₁ - length p) (drop (length p) out₁))) tagged)))
     where
-      counted : answer 0 (text f iv p) out ≡ (n, out₁)
+      counted : answer 0 (gcmText f iv p) out ≡ (n, out₁)
       counted = text-written p out short ran
 
-      first : out₁ ≡ over (text f iv p) out
+      first : out₁ ≡ over (gcmText f iv p) out
       first = sym (ap (λ (x : ℕ × List ℕ). x .1) counted)
 
-      tagged : tag ≡ tagOf f iv a (text f iv p)
-      tagged = et ∙ ap₂ (λ (v c : List ℕ). tagOf f v a c) front-is (over-front (text f iv p) out out₁ (length p) (length-text f size iv p) (omega arith) first)
+      tagged : tag ≡ gcmTag f iv a (gcmText f iv p)
+      tagged = et ∙ ap₂ (λ (v c : List ℕ). gcmTag f v a c) front-is (over-front (gcmText f iv p) out out₁ (length p) (length-gcmText f size iv p) (omega arith) first)
 
   -- the tag of the ciphertext decides
-  pub opened-number : (c t : List ℕ) {right : List ℕ} {n : ℕ} → right ≡ tagOf f (frontOf true base) a c → n ≡ lowest (tagTests (same t right))
-      → n ≡ lowest (tagTests (tagRight f iv a c t))
-  unfolding tagRight
-  opened-number c t er en = en ∙ ap (λ (r : List ℕ). lowest (tagTests (same t r))) (er ∙ ap (λ (v : List ℕ). tagOf f v a c) front-is)
+  pub opened-number : (c t : List ℕ) {right : List ℕ} {n : ℕ} → right ≡ gcmTag f (frontOf true base) a c → n ≡ lowest (authenticTests (same t right))
+      → n ≡ lowest (authenticTests (gcmTagRight f iv a c t))
+  unfolding gcmTagRight
+  opened-number c t er en = en ∙ ap (λ (r : List ℕ). lowest (authenticTests (same t r))) (er ∙ ap (λ (v : List ℕ). gcmTag f v a c) front-is)

@@ -7,7 +7,7 @@ use Prim.Native.Nat.{ℕ, suc, _+_, _-_, _%_, _≤_}
 use native.Mathlib.Omega.{arith}
 use borrow.Author.Tests.{eq-eqb, ne-eqb}
 use lib.Dec.{eqb, lit<, lit≤}
-use lib.ListN.{length, getD, set, take, drop, replicate, length-append}
+use lib.ListN.{length, set, take, drop, replicate, length-append}
 use lib.Seq.{take-at}
 use Rattle.octets.specs.BigEndian.{be}
 use Rattle.octets.specs.Bytes.{Bytes}
@@ -19,22 +19,16 @@ use Rattle.octets.specs.Running.{absorb, close}
 use Rattle.octets.proofs.Bytes.{bytes-cons}
 use Rattle.octets.proofs.Xor.{length-xors, xors-cancel}
 use Rattle.octets.proofs.Same.{same-equal, same-refl, same-differ}
-use Rattle.octets.proofs.Blocks.{cut-next, chain-append, length-chain}
+use Rattle.octets.proofs.Blocks.{chain-append, length-chain}
 use Rattle.octets.proofs.Running.{absorb-append, close-chain}
-use Rattle.modes.specs.Calls.{textMax, tagTests}
+use Rattle.modes.specs.Calls.{textMax, authenticTests}
 use Rattle.modes.specs.Counter.{counterBlock, ctr, counterAnswer, frontOf}
-use Rattle.modes.specs.Ccm.{flags, firstBlock, dataBlocks, mac, front, firstPad, text, tagOf, tagRight}
+use Rattle.modes.specs.Ccm.{flags, firstBlock, dataBlocks, mac, counterFront, firstPad, ccmText, ccmTag, ccmTagRight}
 use Rattle.modes.proofs.Limits.{counterFits-three, counterAnswer-fits}
 use Rattle.modes.proofs.Stream.{length-ctr, ctr-ctr, bytes-ctr}
 use Rattle.octets.proofs.Lent.{over-fits, over-then}
 
 -- ---- the first block and the counter blocks' front
-
-pub flags-some : flags true ≡ 0x7a
-flags-some = refl
-
-pub flags-none : flags false ≡ 0x3a
-flags-none = refl
 
 pub firstBlock-parts : (iv a b : List ℕ) (n : ℕ) → flags (not (eqb (length a + length b) 0)) ∷ (iv ++ be 3 n) ≡ firstBlock iv (a ++ b) n
 unfolding firstBlock
@@ -46,19 +40,14 @@ first-stored [] n v size = absurd (omega arith)
 first-stored (x ∷ base) n v size = refl
 
 -- the nonce over zeros, after the flags
-pub front-stored : (iv : List ℕ) {ys : List ℕ} → length iv ≡ 12 → ys ≡ over iv (replicate 15 0) → 2 ∷ (ys ++ []) ≡ front iv ++ be 3 0
+pub front-stored : (iv : List ℕ) {ys : List ℕ} → length iv ≡ 12 → ys ≡ over iv (replicate 15 0) → 2 ∷ (ys ++ []) ≡ counterFront iv ++ be 3 0
 front-stored iv {ys} size e =
     ap (λ (l : List ℕ). 2 ∷ l) (append-nil ys ∙ e ∙ over-fits iv (replicate 15 0) (omega arith) ∙ ap (λ (n : ℕ). iv ++ drop n (replicate 15 0)) size)
 
-pub front-base : (iv : List ℕ) → length iv ≡ 12 → frontOf false (front iv ++ be 3 0) ≡ front iv
-front-base iv size = take-at (front iv) (be 3 0) 13 (ap suc size)
+pub front-base : (iv : List ℕ) → length iv ≡ 12 → frontOf false (counterFront iv ++ be 3 0) ≡ counterFront iv
+front-base iv size = take-at (counterFront iv) (be 3 0) 13 (ap suc size)
 
 -- ---- the data
-
--- 300 bytes of it begin with their length, 012Ch
-pub dataBlocks-300 : (a : List ℕ) → length a ≡ 300 → take 2 (getD (dataBlocks a) 0 []) ≡ 0x01 ∷ 0x2c ∷ []
-unfolding dataBlocks
-dataBlocks-300 a size = rw (size, cut-next (0x01 ∷ 0x2c ∷ a) (omega arith))
 
 module _ (f : List ℕ → List ℕ) where
   pub data-none : (y a b : List ℕ) → length a + length b ≡ 0 → y ≡ chain f y (dataBlocks (a ++ b))
@@ -87,18 +76,18 @@ module _ (f : List ℕ → List ℕ) where
 -- ---- the text
 
 module _ (f : List ℕ → List ℕ) (size : (x : List ℕ) → length (f x) ≡ 16) (iv : List ℕ) where
-  pub length-text : (s : List ℕ) → length (text f iv s) ≡ length s
-  unfolding text
-  length-text s = length-ctr f size 3 (front iv) 1 s
+  pub length-ccmText : (s : List ℕ) → length (ccmText f iv s) ≡ length s
+  unfolding ccmText
+  length-ccmText s = length-ctr f size 3 (counterFront iv) 1 s
 
   -- the same sum gives the ciphertext and the plaintext
-  pub text-text : (s : List ℕ) → text f iv (text f iv s) ≡ s
-  unfolding text
-  text-text s = ctr-ctr f size 3 (front iv) 1 s
+  pub ccmText-twice : (s : List ℕ) → ccmText f iv (ccmText f iv s) ≡ s
+  unfolding ccmText
+  ccmText-twice s = ctr-ctr f size 3 (counterFront iv) 1 s
 
-  pub bytes-text : ((x : List ℕ) → Bytes x → Bytes (f x)) → {s : List ℕ} → Bytes iv → Bytes s → Bytes (text f iv s)
-  unfolding text
-  bytes-text bytes hv = bytes-ctr f bytes 3 (bytes-cons (lit< tt) hv) 1
+  pub bytes-ccmText : ((x : List ℕ) → Bytes x → Bytes (f x)) → {s : List ℕ} → Bytes iv → Bytes s → Bytes (ccmText f iv s)
+  unfolding ccmText
+  bytes-ccmText bytes hv = bytes-ctr f bytes 3 (bytes-cons (lit< tt) hv) 1
 
 -- ---- the tag
 
@@ -115,30 +104,30 @@ module _ (f : List ℕ → List ℕ) (size : (x : List ℕ) → length (f x) ≡
   unfolding mac
   length-mac p = length-chain f size (f (firstBlock iv a (length p))) (dataBlocks a ++ cut p) (size (firstBlock iv a (length p)))
 
-  pub length-tagOf : (p : List ℕ) → length (tagOf f iv a p) ≡ 16
-  unfolding tagOf
-  length-tagOf p = length-xors (mac f iv a p) (firstPad f iv) (omega (arith, length-mac p, size (counterBlock 3 (front iv) 0))) ∙ length-mac p
+  pub length-ccmTag : (p : List ℕ) → length (ccmTag f iv a p) ≡ 16
+  unfolding ccmTag
+  length-ccmTag p = length-xors (mac f iv a p) (firstPad f iv) (omega (arith, length-mac p, size (counterBlock 3 (counterFront iv) 0))) ∙ length-mac p
 
   -- the tag with S0 is the chain's last state exactly where the tag is the state with S0
-  pub tagRight-same : (c t : List ℕ) → length t ≡ 16 → tagRight f iv a c t ≡ same t (tagOf f iv a (text f iv c))
-  unfolding tagOf tagRight
-  tagRight-same c t h =
-      same-moved t (mac f iv a (text f iv c)) (firstPad f iv) (omega (arith, size (counterBlock 3 (front iv) 0)))
-      (omega (arith, length-mac (text f iv c), size (counterBlock 3 (front iv) 0)))
+  pub ccmTagRight-same : (c t : List ℕ) → length t ≡ 16 → ccmTagRight f iv a c t ≡ same t (ccmTag f iv a (ccmText f iv c))
+  unfolding ccmTag ccmTagRight
+  ccmTagRight-same c t h =
+      same-moved t (mac f iv a (ccmText f iv c)) (firstPad f iv) (omega (arith, size (counterBlock 3 (counterFront iv) 0)))
+      (omega (arith, length-mac (ccmText f iv c), size (counterBlock 3 (counterFront iv) 0)))
 
 -- ---- from the counter blocks' front as the code has it: the state y before the plaintext, z after it, and its sum with S0
 
-module _ (f : List ℕ → List ℕ) (size : (x : List ℕ) → length (f x) ≡ 16) (iv a : List ℕ) {base : List ℕ} (h : length iv ≡ 12) (eb : base ≡ front iv ++ be 3 0) where
-  front-is : frontOf false base ≡ front iv
+module _ (f : List ℕ → List ℕ) (size : (x : List ℕ) → length (f x) ≡ 16) (iv a : List ℕ) {base : List ℕ} (h : length iv ≡ 12) (eb : base ≡ counterFront iv ++ be 3 0) where
+  front-is : frontOf false base ≡ counterFront iv
   front-is = ap (frontOf false) eb ∙ front-base iv h
 
-  text-counted : (s : List ℕ) → text f iv s ≡ ctr f 3 (frontOf false base) 1 s
-  unfolding text
+  text-counted : (s : List ℕ) → ccmText f iv s ≡ ctr f 3 (frontOf false base) 1 s
+  unfolding ccmText
   text-counted s = ap (λ (l : List ℕ). ctr f 3 l 1 s) (sym front-is)
 
   tag-steps : (p : List ℕ) {y z r : List ℕ} → y ≡ chain f (f (firstBlock (drop 1 (frontOf false base)) a (length p))) (dataBlocks a) → z ≡ chain f y (cut p)
-      → r ≡ xors z (f (counterBlock 3 (frontOf false base) 0)) → r ≡ tagOf f iv a p
-  unfolding mac tagOf
+      → r ≡ xors z (f (counterBlock 3 (frontOf false base) 0)) → r ≡ ccmTag f iv a p
+  unfolding mac ccmTag
   tag-steps p ey ez er =
       er
       ∙ ap₂ (λ (z l : List ℕ). xors z (f (counterBlock 3 l 0)))
@@ -152,26 +141,26 @@ module _ (f : List ℕ → List ℕ) (size : (x : List ℕ) → length (f x) ≡
       → y ≡ chain f (f (firstBlock (drop 1 (frontOf false base)) a (length p))) (dataBlocks a) → z ≡ chain f y (cut p)
       → out₁ ≡ over (ctr f 3 (frontOf false base) 1 p) out → tag ≡ xors z (f (counterBlock 3 (frontOf false base) 0))
       → ys ≡ over tag (take (length out₁ - length p) (drop (length p) out₁))
-      → answer 0 (text f iv p ++ tagOf f iv a p) out ≡ (0, take (length p) out₁ ++ (ys ++ drop (length out₁ - length p) (drop (length p) out₁)))
+      → answer 0 (ccmText f iv p ++ ccmTag f iv a p) out ≡ (0, take (length p) out₁ ++ (ys ++ drop (length out₁ - length p) (drop (length p) out₁)))
   sealed-steps p out {out₁ = out₁} fits ey ez eo et es =
       ap (λ (l : List ℕ). (0, l))
       (sym
-      (over-then (text f iv p) (tagOf f iv a p) out out₁ _ (length p) (length-text f size iv p) (omega (arith, length-tagOf f size iv a p))
+      (over-then (ccmText f iv p) (ccmTag f iv a p) out out₁ _ (length p) (length-ccmText f size iv p) (omega (arith, length-ccmTag f size iv a p))
       (eo ∙ ap (λ (l : List ℕ). over l out) (sym (text-counted p)))
       (es ∙ ap (λ (t : List ℕ). over t (take (length out₁ - length p) (drop (length p) out₁))) (tag-steps p ey ez et))))
 
   -- the tag of the plaintext that a ciphertext gives decides, and then its text is written
   pub opened-number : (c t : List ℕ) {y z right : List ℕ} {n : ℕ} → length t ≡ 16
       → y ≡ chain f (f (firstBlock (drop 1 (frontOf false base)) a (length c))) (dataBlocks a) → z ≡ chain f y (cut (ctr f 3 (frontOf false base) 1 c))
-      → right ≡ xors z (f (counterBlock 3 (frontOf false base) 0)) → n ≡ lowest (tagTests (same t right)) → n ≡ lowest (tagTests (tagRight f iv a c t))
-  opened-number c t {y} {right = right} ht ey ez er en = en ∙ ap (λ (b : Bool). lowest (tagTests b)) (ap (same t) whole ∙ sym (tagRight-same f size iv a c t ht))
+      → right ≡ xors z (f (counterBlock 3 (frontOf false base) 0)) → n ≡ lowest (authenticTests (same t right)) → n ≡ lowest (authenticTests (ccmTagRight f iv a c t))
+  opened-number c t {y} {right = right} ht ey ez er en = en ∙ ap (λ (b : Bool). lowest (authenticTests b)) (ap (same t) whole ∙ sym (ccmTagRight-same f size iv a c t ht))
     where
-      whole : right ≡ tagOf f iv a (text f iv c)
+      whole : right ≡ ccmTag f iv a (ccmText f iv c)
       whole =
-          tag-steps (text f iv c) (ey ∙ ap (λ (n : ℕ). chain f (f (firstBlock (drop 1 (frontOf false base)) a n)) (dataBlocks a)) (sym (length-text f size iv c)))
+          tag-steps (ccmText f iv c) (ey ∙ ap (λ (n : ℕ). chain f (f (firstBlock (drop 1 (frontOf false base)) a n)) (dataBlocks a)) (sym (length-ccmText f size iv c)))
           (ez ∙ ap (λ (s : List ℕ). chain f y (cut s)) (sym (text-counted c))) er
 
-  pub text-written : (c out : List ℕ) {x : ℕ × List ℕ} → length c ≤ textMax → counterAnswer f 3 (frontOf false base) 1 c out ≡ x → answer 0 (text f iv c) out ≡ x
+  pub text-written : (c out : List ℕ) {x : ℕ × List ℕ} → length c ≤ textMax → counterAnswer f 3 (frontOf false base) 1 c out ≡ x → answer 0 (ccmText f iv c) out ≡ x
   text-written c out short ran =
       ap (λ (s : List ℕ). (0, over s out)) (text-counted c)
       ∙ sym (counterAnswer-fits f 3 (frontOf false base) 1 c out (counterFits-three 1 (length c) (lit≤ tt) short))

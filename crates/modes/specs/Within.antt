@@ -1,0 +1,19 @@
+-- What the passes of a mode are lent once the tests of the arguments are passed: ready tables and keys, and lengths in range.
+-- Assumes nothing.
+use mathlib.Core.Path.{_≡_}
+use Prim.Native.Nat.{ℕ, _+_, _≤_}
+use mathlib.Core.List.{List}
+use lib.ListN.{length}
+use Rattle.aes.specs.State.{State}
+use Rattle.aes_fast.specs.ByTables.{Tables}
+use Rattle.aes_fast.specs.Right.{Ready}
+use Rattle.modes.specs.Calls.{dataMax, textMax}
+
+-- an IV of 12 bytes, and room for the text and a tag of 16
+abbrev pub SealsWith : Tables → List State → List ℕ → List ℕ → List ℕ → List ℕ → ℕ → Type 0
+SealsWith t ks iv a b p room = Ready t ks × (length iv ≡ 12) × (length a + length b ≤ dataMax) × (length p ≤ textMax) × (length p + 16 ≤ room)
+
+-- the same IV, a tag of 16 bytes, and room for the text
+abbrev pub OpensWith : Tables → List State → List ℕ → List ℕ → List ℕ → List ℕ → List ℕ → ℕ → Type 0
+OpensWith t ks iv a b c tag room =
+    Ready t ks × (length iv ≡ 12) × (length a + length b ≤ dataMax) × (length c ≤ textMax) × (length tag ≡ 16) × (length c ≤ room)

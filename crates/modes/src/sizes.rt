@@ -1,0 +1,14 @@
+// Lengths in bytes, document 01's maxima, and the bytes that name the modes.
+pub(crate) const KEY_SIZE: usize = 32;
+
+pub(crate) const IV_SIZE: usize = 12;
+
+pub(crate) const TAG_SIZE: usize = 16;
+
+pub(crate) const DATA_MAX: usize = 4152;
+
+pub(crate) const TEXT_MAX: usize = 1048576;
+
+pub(crate) const CCM: u8 = 1;
+
+pub(crate) const GCM: u8 = 2;
