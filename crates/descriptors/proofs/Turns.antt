@@ -1,4 +1,5 @@
--- What the test, the count, a step and the search for a type make of the bytes at a place of a list: of one whole descriptor, of bytes that begin none, and of the end.
+-- What the test, the count, a step and the search for a type make of the bytes at a place of a list:
+-- of one whole descriptor, of bytes that begin none, and of the end.
 -- Assumes nothing.
 use mathlib.Core.Path.{_≡_, refl, sym, ap, _∙_}
 use mathlib.Core.Bool.{Bool, true, false, _&&_, not, and-false, false≢true}
@@ -20,17 +21,18 @@ use Rattle.descriptors.specs.Steps.{firstShown, splitStep}
 use Rattle.descriptors.specs.Labels.{present}
 use Rattle.descriptors.proofs.Split.{place-turn, place-stop, place-end, size-in}
 
-abbrev pub passes : Bool → Bool → ℕ → ℕ → Bool
-passes label strict least kind = leb least kind && not (isRefused label strict kind)
+-- the type is at least the least, and admitted
+abbrev pub typeAdmitted : Bool → Bool → ℕ → ℕ → Bool
+typeAdmitted label strict least kind = leb least kind && not (isRefused label strict kind)
 
 -- ---- a descriptor of this type, and what follows it
 
 module _ (label strict : Bool) (d : List ℕ) (p : Split) where
-  ok-turn : (least : ℕ) → passes label strict least (typeOf d) ≡ true → splitOk label strict least (behind d p) ≡ splitOk label strict (typeOf d + 1) p
+  ok-turn : (least : ℕ) → typeAdmitted label strict least (typeOf d) ≡ true → splitOk label strict least (behind d p) ≡ splitOk label strict (typeOf d + 1) p
   unfolding splitOk risesFrom all
   ok-turn least e = rw (and-left (leb least (typeOf d)) (admits label strict d) e, and-right (leb least (typeOf d)) (admits label strict d) e)
 
-  ok-refused : (least : ℕ) → passes label strict least (typeOf d) ≡ false → splitOk label strict least (behind d p) ≡ false
+  ok-refused : (least : ℕ) → typeAdmitted label strict least (typeOf d) ≡ false → splitOk label strict least (behind d p) ≡ false
   unfolding splitOk risesFrom all
   ok-refused least e = go (leb least (typeOf d)) (admits label strict d) e
     where
@@ -60,17 +62,17 @@ module _ (s : List ℕ) (at : ℕ) where
     length-here = length-part s at n (size-in s at n size some .1)
 
     module _ (label strict : Bool) where
-      pub test-turn : (least : ℕ) → passes label strict least kind ≡ true
+      pub test-turn : (least : ℕ) → typeAdmitted label strict least kind ≡ true
           → splitOk label strict least (split (drop at s)) ≡ splitOk label strict (kind + 1) (split (drop (at + n) s))
       test-turn least e =
           ap (splitOk label strict least) (place-turn s at n size some)
-          ∙ ok-turn label strict (partOf s at n) _ least (ap (passes label strict least) type-here ∙ e)
+          ∙ ok-turn label strict (partOf s at n) _ least (ap (typeAdmitted label strict least) type-here ∙ e)
           ∙ ap (λ (t : ℕ). splitOk label strict (t + 1) (split (drop (at + n) s))) type-here
 
-      pub test-refused : (least : ℕ) → passes label strict least kind ≡ false → splitOk label strict least (split (drop at s)) ≡ false
+      pub test-refused : (least : ℕ) → typeAdmitted label strict least kind ≡ false → splitOk label strict least (split (drop at s)) ≡ false
       test-refused least e =
           ap (splitOk label strict least) (place-turn s at n size some)
-          ∙ ok-refused label strict (partOf s at n) _ least (ap (passes label strict least) type-here ∙ e)
+          ∙ ok-refused label strict (partOf s at n) _ least (ap (typeAdmitted label strict least) type-here ∙ e)
 
       pub step-one : isReserved label kind ≡ false → splitStep label strict at (split (drop at s)) ≡ (0, at ∷ (at + n) ∷ [])
       unfolding splitStep firstShown

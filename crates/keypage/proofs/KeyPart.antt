@@ -81,11 +81,14 @@ type-kek k low high = go (eqb k 1) (eqb k 2) refl refl
 
 -- ---- each format's tests, both ways
 
--- no test of a part applies
-pub record PartPassed (f : ℕ) (s : List ℕ) : Type 0 where
-  pub whole : partBroken f s ≡ false
-  pub permitted : partRefused f s ≡ false
-  pub short : partLong f s ≡ false
+-- none of the tests for 2, 3 and 4 applies: of a whole page (proofs/ReadNumbers.antt), and of a part
+pub record Passed (broken refused long : Bool) : Type 0 where
+  pub whole : broken ≡ false
+  pub permitted : refused ≡ false
+  pub short : long ≡ false
+
+abbrev pub PartPassed : ℕ → List ℕ → Type 0
+PartPassed f s = Passed (partBroken f s) (partRefused f s) (partLong f s)
 
 module _ (s : List ℕ) where
   pub plain-size : PartPassed plainFormat s → length s ≡ rowKeySize

@@ -1,5 +1,5 @@
-pub mod ReadNumbers
 pub mod KeyPart
+pub mod ReadNumbers
 pub mod Page
 pub mod LoadNumbers
 pub mod Load

@@ -15,6 +15,7 @@ use Rattle.octets.proofs.Tests.{or-left, every-at}
 use Rattle.keypage.specs.Page.{pageCode, keyPartAt, formatIn, keyLength, keyPart, listIn, pageListOk, pageListCount, pageTests, pageOk, fieldsOf}
 use Rattle.keypage.specs.KeyPart.{partBroken}
 use Rattle.keypage.specs.Read.{broken, refused, long, pageReadTests, pageReadNumber, pageReadAnswer}
+use Rattle.keypage.proofs.KeyPart.{Passed}
 
 -- the tests of a page's own layout, by what the code has read of it
 pub page-tested : (p : List ℕ) (code size first key : ℕ) (reserved listed : Bool) → code ≡ numberAt 2 p 0 → size ≡ numberAt 2 p 2 → first ≡ getD p 4 0
@@ -44,10 +45,8 @@ module _ (p : List ℕ) where
 
 -- ---- the number 0: no test applies
 
-pub record ReadPassed (p : List ℕ) : Type 0 where
-  pub whole : broken p ≡ false
-  pub permitted : refused p ≡ false
-  pub short : long p ≡ false
+abbrev pub ReadPassed : List ℕ → Type 0
+ReadPassed p = Passed (broken p) (refused p) (long p)
 
 pub read-passed : (p : List ℕ) → pageReadNumber p ≡ 0 → ReadPassed p
 unfolding pageReadNumber

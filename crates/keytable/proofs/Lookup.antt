@@ -42,36 +42,36 @@ named-own row h =
 
 -- along the rows: what is left at row i decides
 module _ (t name : List ℕ) (i : ℕ) where
-  pub place-here : i < rowCount t → named name (partOf t (rowPlace i) rowSize) ≡ true → placeFrom (rowPlace i) name (drop i (rowsOf t)) ≡ At (rowPlace i)
+  pub placeFrom-here : i < rowCount t → named name (partOf t (rowPlace i) rowSize) ≡ true → placeFrom (rowPlace i) name (drop i (rowsOf t)) ≡ At (rowPlace i)
   unfolding placeFrom
-  place-here h e = rw (drop-cons (rowsOf t) i [] (rowsOf-more t i h), rowsOf-at t i h, e)
+  placeFrom-here h e = rw (drop-cons (rowsOf t) i [] (rowsOf-more t i h), rowsOf-at t i h, e)
 
-  pub place-turn : i < rowCount t → named name (partOf t (rowPlace i) rowSize) ≡ false
+  pub placeFrom-turn : i < rowCount t → named name (partOf t (rowPlace i) rowSize) ≡ false
       → placeFrom (rowPlace i) name (drop i (rowsOf t)) ≡ placeFrom (rowPlace (i + 1)) name (drop (i + 1) (rowsOf t))
   unfolding placeFrom
-  place-turn h e =
+  placeFrom-turn h e =
       let next : rowPlace i + rowSize ≡ rowPlace (i + 1) = omega arith in
       rw (drop-cons (rowsOf t) i [] (rowsOf-more t i h), rowsOf-at t i h, e, next, add-one)
 
-  pub place-end : rowCount t ≤ i → placeFrom (rowPlace i) name (drop i (rowsOf t)) ≡ Nothing
+  pub placeFrom-end : rowCount t ≤ i → placeFrom (rowPlace i) name (drop i (rowsOf t)) ≡ Nothing
   unfolding placeFrom
-  place-end h = rw (drop-of-length-le (rowsOf t) (rowsOf-done t i h))
+  placeFrom-end h = rw (drop-of-length-le (rowsOf t) (rowsOf-done t i h))
 
 -- there is no place exactly where no row has the name
-pub nothing-absent : (at : ℕ) (name : List ℕ) (xs : List (List ℕ)) → placeFrom at name xs ≡ Nothing → absent name xs ≡ true
+pub placeFrom-absent : (at : ℕ) (name : List ℕ) (xs : List (List ℕ)) → placeFrom at name xs ≡ Nothing → absent name xs ≡ true
 unfolding all placeFrom
-nothing-absent at name [] e = refl
-nothing-absent at name (x ∷ xs) e = go (named name x) (nothing-absent (at + rowSize) name xs) e
+placeFrom-absent at name [] e = refl
+placeFrom-absent at name (x ∷ xs) e = go (named name x) (placeFrom-absent (at + rowSize) name xs) e
   where
     go : (t : Bool) → (placeFrom (at + rowSize) name xs ≡ Nothing → absent name xs ≡ true)
         → when t (At at) (placeFrom (at + rowSize) name xs) ≡ Nothing → (not t && absent name xs) ≡ true
     go true ih h = cc
     go false ih h = ih h
 
-pub else-present : (at : ℕ) (name : List ℕ) (xs : List (List ℕ)) → (placeFrom at name xs ≡ Nothing → ⊥) → absent name xs ≡ false
+pub placeFrom-present : (at : ℕ) (name : List ℕ) (xs : List (List ℕ)) → (placeFrom at name xs ≡ Nothing → ⊥) → absent name xs ≡ false
 unfolding all placeFrom
-else-present at name [] e = absurd (e refl)
-else-present at name (x ∷ xs) e = go (named name x) (else-present (at + rowSize) name xs) e
+placeFrom-present at name [] e = absurd (e refl)
+placeFrom-present at name (x ∷ xs) e = go (named name x) (placeFrom-present (at + rowSize) name xs) e
   where
     go : (t : Bool) → ((placeFrom (at + rowSize) name xs ≡ Nothing → ⊥) → absent name xs ≡ false)
         → (when t (At at) (placeFrom (at + rowSize) name xs) ≡ Nothing → ⊥) → (not t && absent name xs) ≡ false

@@ -14,7 +14,7 @@ use Rattle.keytable.specs.Table.{absent}
 use Rattle.keytable.specs.Find.{foundSays, placeFrom}
 use Rattle.keytable.specs.declared.Found.{Found}
 use Rattle.keytable.specs.declared.Found.the-variants.{At, Nothing, Broken}
-use Rattle.keytable.proofs.Lookup as lookup
+use Rattle.keytable.proofs.Lookup.{placeFrom-absent, placeFrom-present}
 
 -- the case that an answer tells of
 abbrev pub foundIn : ℕ × List ℕ → Found
@@ -42,10 +42,10 @@ NotNothing f = OneOf (0 ∷ 2 ∷ []) (tagOf (declared Rattle.keytable.proofs.
 -- along rows: whether one of them has the name
 module _ (at : ℕ) (name : List ℕ) (xs : List (List ℕ)) (f : Found) (e : foundSays f ≡ foundSays (placeFrom at name xs)) where
   pub nothing-absent : f ≡ Nothing → absent name xs ≡ true
-  nothing-absent is = lookup.nothing-absent at name xs (sym (says-same f (placeFrom at name xs) e) ∙ is)
+  nothing-absent is = placeFrom-absent at name xs (sym (says-same f (placeFrom at name xs) e) ∙ is)
 
   pub else-present : NotNothing f → absent name xs ≡ false
-  else-present other = lookup.else-present at name xs (λ nothing. never f (says-same f (placeFrom at name xs) e ∙ nothing) other)
+  else-present other = placeFrom-present at name xs (λ nothing. never f (says-same f (placeFrom at name xs) e ∙ nothing) other)
     where
       never : (g : Found) → g ≡ Nothing → NotNothing g → ⊥
       never g is w = ⊎-elim (λ z. omega arith) (λ z. omega arith) (rw is at w)

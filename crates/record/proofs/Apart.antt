@@ -12,7 +12,7 @@ use Rattle.keytable.specs.Row.{rowKeySize}
 use Rattle.modes.specs.Calls.{decryptAnswer}
 use Rattle.modes.proofs.Numbers.{decrypt-in-range}
 use Rattle.modes.specs.Modes.{modeOf}
-use Rattle.record.specs.Record.{modeFor, modeIn, countIn, nameSize, layoutOk, frontIn, ivIn, textIn, tagIn}
+use Rattle.record.specs.Record.{ivAt, modeFor, modeIn, countIn, nameSize, layoutOk, frontIn, ivIn, textIn, tagIn}
 use Rattle.record.specs.Read.{passes}
 use Rattle.record.specs.Seal.{callersMax}
 use Rattle.record.specs.Open.{authenticBy, plaintextBy}
@@ -50,7 +50,7 @@ parts-opened key r a out good short key-right aad-short room =
 -- the same, of parts cut by fields that were read, and by the mode's lengths
 pub fields-opened : (key r a out : List ℕ) (u k n v t : ℕ) → HeaderAccepted r u k n → v ≡ modeOf u .ivSize → t ≡ modeOf u .tagSize
     → length key ≡ rowKeySize → length a ≤ callersMax → n ≤ length out
-    → decryptAnswer (modeOf u) key (partOf r (24 + k) v) (partOf r 0 (24 + k)) a (partOf r (24 + k + v) n) (partOf r (24 + k + v + n) t) out
+    → decryptAnswer (modeOf u) key (partOf r (ivAt k) v) (partOf r 0 (ivAt k)) a (partOf r (ivAt k + v) n) (partOf r (ivAt k + v + n) t) out
     ≡ answer (lowest ((9, not (authenticBy key r a)) ∷ [])) (plaintextBy key r) out
 unfolding ivIn frontIn textIn tagIn
 fields-opened key r a out u k n v t is ev et key-right aad-short room =

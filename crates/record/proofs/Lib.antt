@@ -1,3 +1,4 @@
+pub mod After
 pub mod Lengths
 pub mod SealNumbers
 pub mod OpenNumbers

@@ -67,7 +67,7 @@ kept-layout r h =
 -- ---- from the numbers that were read
 
 pub end-told : (r : List ℕ) (u k v n tag-place g : ℕ)
-    → u ≡ modeIn r → k ≡ nameSize r → v ≡ modeOf u .ivSize → n ≡ countIn r → tag-place ≡ 24 + k + v + n → g ≡ modeOf u .tagSize → tag-place + g ≡ endIn r
+    → u ≡ modeIn r → k ≡ nameSize r → v ≡ modeOf u .ivSize → n ≡ countIn r → tag-place ≡ ivAt k + v + n → g ≡ modeOf u .tagSize → tag-place + g ≡ endIn r
 end-told r u k v n tag-place g eu ek ev en et eg = rw (et, eg, ev, eu, ek, en)
 
 -- the tests one after another; both modes permit every count
@@ -76,9 +76,9 @@ and-true true = refl
 and-true false = refl
 
 pub layout-tested : (r : List ℕ) (u v n k tag-place end-place a b c d e f h : ℕ)
-    → u ≡ modeIn r → v ≡ modeOf u .ivSize → n ≡ countIn r → k ≡ nameSize r → tag-place ≡ 24 + k + v + n → end-place ≡ endIn r
+    → u ≡ modeIn r → v ≡ modeOf u .ivSize → n ≡ countIn r → k ≡ nameSize r → tag-place ≡ ivAt k + v + n → end-place ≡ endIn r
     → a ≡ numberAt 2 r 0 → b ≡ getD r 3 0 → c ≡ numberAt 2 r 8 → d ≡ numberAt 2 r 12 → e ≡ numberAt 2 r 14 → f ≡ numberAt 4 r 16 → h ≡ numberAt 4 r 20
-    → (eqb a 1 && eqb b 0 && eqb c 24 && leb 1 k && eqb d (24 + k) && eqb e v && eqb f (24 + k + v) && eqb h tag-place && eqb (length r) end-place) ≡ layoutOk r
+    → (eqb a recordFormat && eqb b 0 && eqb c nameAt && leb 1 k && eqb d (ivAt k) && eqb e v && eqb f (ivAt k + v) && eqb h tag-place && eqb (length r) end-place) ≡ layoutOk r
 unfolding layoutOk
 layout-tested r u v n k tag-place end-place a b c d e f h eu ev en ek et ez ea eb ec ed ee ef eh =
     rw (et, ez, ev, eu, en, ek, ea, eb, ec, ed, ee, ef, eh, modes-permit (modeIn r) (countIn r), and-true)

@@ -29,7 +29,7 @@ use Rattle.record.specs.Demand3.{Seals}
 use Rattle.record.specs.Laws.{SealInRange, SealsInRange, SealsOnlyInRange}
 use Rattle.record.proofs.Lengths.{key-size, within-maxima, maxima-kept}
 use Rattle.record.proofs.Written.{length-front}
-use Rattle.record.proofs.Filled.{over-append}
+use Rattle.record.proofs.After.{over-append}
 use Rattle.record.proofs.Laid.{laid, Laid, length-laid, laid-out}
 
 -- ---- the tests

@@ -29,7 +29,7 @@ use Rattle.record.specs.Laws.{NextOtherRows, NextLive, NextSpent, NextSe
 use Rattle.record.specs.Laws.{SealByUnique, SealNextUnique, SealNextTestsRise}
 use Rattle.octets.proofs.Lent.{answer-done}
 use Rattle.record.proofs.Written.{length-front, read-back}
-use Rattle.record.proofs.Filled.{over-append}
+use Rattle.record.proofs.After.{over-append}
 use Rattle.record.proofs.Sealed.{in-range, seals-in-range}
 use Rattle.record.proofs.WithSession.{next-zero, next-live, next-spent, next-done}
 

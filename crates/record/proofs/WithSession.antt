@@ -10,7 +10,6 @@ use borrow.Author.Tests.{eqb-true, eqb-false, ne-eqb, not-true}
 use lib.Dec.{eqb}
 use lib.ListN.{length, length-replicate}
 use Rattle.octets.specs.Lent.{when, lowest, over}
-use Rattle.octets.proofs.Tests.{and-left, and-right}
 use Rattle.session.specs.Iv.{prefixSize, sessionIvSize, isSpent, ivOf, nextSession}
 use Rattle.session.specs.Calls.{SessionAnswer, advanceAnswer}
 use Rattle.session.specs.declared.Session.{Session}
@@ -18,19 +17,8 @@ use Rattle.session.proofs.Calls.{advance-spent, advance-done, advance-live}
 use Rattle.session.proofs.Laws.{length-iv}
 use Rattle.record.specs.Seal.{recordBy, sealTests, sealNumber, readyBy}
 use Rattle.record.specs.Next.{sealNextNumber, sealNextRow}
-use Rattle.octets.proofs.Lent.{numbered}
+use Rattle.record.proofs.After.{lowest-then}
 use Rattle.record.proofs.SealReady.{ready-refused, ready-number}
-
--- ---- tests and then others: the first list's number, and where it gives 0 the second's
-
-lowest-then : (ns ms : List (ℕ × Bool)) → numbered ns ≡ true → lowest (ns ++ ms) ≡ when (eqb (lowest ns) 0) (lowest ms) (lowest ns)
-lowest-then [] ms h = refl
-lowest-then (n ∷ ns) ms h = go (n .1) (lowest-then ns ms (and-right (not (eqb (n .0) 0)) (numbered ns) h))
-  where
-    go : (t : Bool) → lowest (ns ++ ms) ≡ when (eqb (lowest ns) 0) (lowest ms) (lowest ns)
-        → when t (n .0) (lowest (ns ++ ms)) ≡ when (eqb (when t (n .0) (lowest ns)) 0) (lowest ms) (when t (n .0) (lowest ns))
-    go true e = rw (not-true (eqb (n .0) 0) (and-left (not (eqb (n .0) 0)) (numbered ns) h))
-    go false e = e
 
 -- ---- over the definition
 

@@ -101,7 +101,7 @@ module _ (r : List ℕ) (bytes : Bytes r) (layout : layoutOk r ≡ true) where
   kept : Kept r
   kept = layout-kept r layout
 
-  whole : 24 ≤ length r
+  whole : nameAt ≤ length r
   whole = omega (arith, kept .end-at)
 
   mode-bytes : modeIn r ∷ 0 ∷ [] ≡ take 2 (drop 2 r)
@@ -112,9 +112,9 @@ module _ (r : List ℕ) (bytes : Bytes r) (layout : layoutOk r ≡ true) where
       ap₂ (λ (s l : List ℕ). s ++ l) (field r 0 2 recordFormat [] bytes (omega (arith, whole)) refl (kept .format)) mode-bytes
       ∙ sym (take-add 2 2 r)
 
-  header-back : header (modeIn r) (nameSize r) (countIn r) ≡ take 24 r
+  header-first : header (modeIn r) (nameSize r) (countIn r) ≡ take nameAt r
   unfolding header
-  header-back =
+  header-first =
       field r 20 4 _ _ bytes (omega (arith, whole))
       (field r 16 4 _ _ bytes (omega (arith, whole))
       (field r 14 2 _ _ bytes (omega (arith, whole))
@@ -137,5 +137,5 @@ module _ (r : List ℕ) (bytes : Bytes r) (layout : layoutOk r ≡ true) where
   unfolding frontIn recordFront
   front-back =
       take-add nameAt (nameSize r) r
-      ∙ ap₂ (λ (s l : List ℕ). s ++ l) (sym header-back) name-bytes
+      ∙ ap₂ (λ (s l : List ℕ). s ++ l) (sym header-first) name-bytes
       ∙ ap (λ (k : ℕ). header (modeIn r) k (countIn r) ++ nameIn r) (sym (length-nameIn r layout))

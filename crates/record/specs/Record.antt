@@ -7,6 +7,7 @@ use lib.ListN.{length, getD}
 use lib.Dec.{eqb, leb}
 use Rattle.octets.specs.BigEndian.{be, numberAt}
 use Rattle.octets.specs.Tests.{every, partOf}
+use Rattle.keytable.specs.Row.{nameMax}
 use Rattle.modes.specs.Mode.{Mode}
 use Rattle.modes.specs.Modes.{modeOf}
 
@@ -20,6 +21,10 @@ nameAt = 24
 
 abbrev pub ivAt : ℕ → ℕ
 ivAt k = nameAt + k
+
+-- the most that stands before the IV
+abbrev pub frontMax : ℕ
+frontMax = ivAt nameMax
 
 abbrev pub textAt : Mode → ℕ → ℕ
 textAt m k = ivAt k + m .ivSize

@@ -25,12 +25,12 @@ use octets::big_endian::read32;
 use octets::strings::put;
 ghost use mathlib.Core.Path.{_≡_};
 ghost use mathlib.Core.List.{_++_};
-ghost use Prim.Native.Nat.{_+_, _≤_, _<_};
+ghost use Prim.Native.Nat.{_+_, _^_, _≤_, _<_};
 ghost use lib.ListN.{length, replicate};
 ghost use Rattle.octets.specs.Lent.{over};
 ghost use Rattle.keytable.specs.Row.{nameMax};
 ghost use Rattle.modes.specs.Calls.{textMax};
-ghost use Rattle.record.specs.Record.{modeIn, endIn, layoutOk, header, recordFront};
+ghost use Rattle.record.specs.Record.{frontMax, modeIn, endIn, layoutOk, header, recordFront};
 ghost use Rattle.record.specs.Read.{passes, headerSays, headerNumber, headerAnswer};
 
 // What reading a record's header finds.
@@ -53,8 +53,8 @@ fn mode_in(r: &[u8]) -> u8
 
 // The place of the tag, n bytes after that of the ciphertext: a 32-bit sum would come round where n is FFFFFFFFh.
 fn tag_place(text: usize, n: usize) -> usize
-    requires { ⌜ (text < 131072) × (n < 4294967296) ⌝ }
-    ensures { λ r. ⌜ (r ≡ text + n) × (r < 4295098368) ⌝ }
+    requires { ⌜ (text < 2 ^ 17) × (n < 2 ^ 32) ⌝ }
+    ensures { λ r. ⌜ (r ≡ text + n) × (r < 2 ^ 17 + 2 ^ 32) ⌝ }
 {
     text + n
 }
@@ -142,7 +142,7 @@ pub fn check(r: &[u8]) -> u8
     number_of(read(r))
 }
 
-// The 24 bytes of a header.
+// A header.
 fn header_of(u: u8, k: usize, n: usize) -> [u8; NAME_AT]
     requires { ⌜ (k ≤ nameMax) × (n ≤ textMax) ⌝ }
     ensures { λ r. ⌜ r ≡ header u k n ⌝ }
@@ -200,7 +200,7 @@ pub(crate) fn put_both(first: &[u8], second: &[u8], out: &mut [u8])
 // What a record has before its IV, and zeros after it.
 pub(crate) fn front_of(u: u8, name: &[u8], n: usize) -> [u8; FRONT_MAX]
     requires { ⌜ (length (now name) ≤ nameMax) × (n ≤ textMax) ⌝ }
-    ensures { λ r. ⌜ r ≡ over (recordFront u (now (name .entry)) n) (replicate 56 0) ⌝ }
+    ensures { λ r. ⌜ r ≡ over (recordFront u (now (name .entry)) n) (replicate frontMax 0) ⌝ }
 {
     let mut room = [0u8; FRONT_MAX];
     let h = header_of(u, name.len(), n);

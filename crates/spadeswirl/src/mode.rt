@@ -1,9 +1,13 @@
-// CCM and GCM by themselves: mode 1 and mode 2, and the second part of the associated data is empty.
+// CCM and GCM by themselves, each by the byte that names it; the second part of the associated data is empty.
 ghost use mathlib.Core.Path.{_≡_};
 ghost use mathlib.Core.List.{[]};
 ghost use Rattle.modes.specs.Ccm.{ccm};
 ghost use Rattle.modes.specs.Gcm.{gcm};
 ghost use Rattle.modes.specs.Calls.{encryptAnswer, decryptAnswer};
+
+const CCM: u8 = 0x01;
+
+const GCM: u8 = 0x02;
 
 #[no_mangle]
 pub extern "C" fn spadeswirl_ccm_encrypt(
@@ -15,7 +19,7 @@ pub extern "C" fn spadeswirl_ccm_encrypt(
 ) -> u8
     ensures { λ r. ⌜ encryptAnswer ccm (now (key .entry)) (now (iv .entry)) (now (aad .entry)) [] (now (plain .entry)) (now (out .entry)) ≡ (r, now (out .exit)) ⌝ }
 {
-    modes::encrypt(1, key, iv, aad, &aad[..0], plain, out)
+    modes::encrypt(CCM, key, iv, aad, &aad[..0], plain, out)
 }
 
 #[no_mangle]
@@ -29,7 +33,7 @@ pub extern "C" fn spadeswirl_ccm_decrypt(
 ) -> u8
     ensures { λ r. ⌜ decryptAnswer ccm (now (key .entry)) (now (iv .entry)) (now (aad .entry)) [] (now (text .entry)) (now (tag .entry)) (now (out .entry)) ≡ (r, now (out .exit)) ⌝ }
 {
-    modes::decrypt(1, key, iv, aad, &aad[..0], text, tag, out)
+    modes::decrypt(CCM, key, iv, aad, &aad[..0], text, tag, out)
 }
 
 #[no_mangle]
@@ -42,7 +46,7 @@ pub extern "C" fn spadeswirl_gcm_encrypt(
 ) -> u8
     ensures { λ r. ⌜ encryptAnswer gcm (now (key .entry)) (now (iv .entry)) (now (aad .entry)) [] (now (plain .entry)) (now (out .entry)) ≡ (r, now (out .exit)) ⌝ }
 {
-    modes::encrypt(2, key, iv, aad, &aad[..0], plain, out)
+    modes::encrypt(GCM, key, iv, aad, &aad[..0], plain, out)
 }
 
 #[no_mangle]
@@ -56,5 +60,5 @@ pub extern "C" fn spadeswirl_gcm_decrypt(
 ) -> u8
     ensures { λ r. ⌜ decryptAnswer gcm (now (key .entry)) (now (iv .entry)) (now (aad .entry)) [] (now (text .entry)) (now (tag .entry)) (now (out .entry)) ≡ (r, now (out .exit)) ⌝ }
 {
-    modes::decrypt(2, key, iv, aad, &aad[..0], text, tag, out)
+    modes::decrypt(GCM, key, iv, aad, &aad[..0], text, tag, out)
 }

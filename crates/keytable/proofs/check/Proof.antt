@@ -2,6 +2,7 @@
 -- Assumes nothing.
 use mathlib.Core.Path.{_≡_, sym, ap, _∙_}
 use mathlib.Core.Bool.{true}
+use mathlib.Core.List.{List}
 use Prim.Native.Nat.{ℕ}
 use borrow.Author.Needs.{needs}
 use borrow.Author.Tests.{not-true, not-false}
@@ -14,19 +15,22 @@ use Rattle.keytable.proofs.Calls.{table-refused, table-accepted}
 use Rattle.keytable.proofs.check.Statement.{statement}
 use Rattle.keytable.proofs.check.Tie as tie
 
+abbrev table : tie.Else1 → List ℕ
+table c = c .before .before .before .args .t .now
+
 returns : tie.Need-returns
 returns c = sym (table-refused _ 0 (sym (c .before .head-ok .ensures) ∙ not-true _ (c .if1 .taken)))
 
 -- what is known past each test
-head : (c : tie.Else1) → headOk (c .before .before .before .args .t .now) ≡ true
+head : (c : tie.Else1) → headOk (table c) ≡ true
 head c = sym (c .before .head-ok .ensures) ∙ not-false _ (c .if1 .left)
 
 count : (c : tie.After-read16)
-    → let t = c .before .before .before .before .args .t .now in (length t ≡ rowPlace (c .read16 .result)) × (c .read16 .result ≡ rowCount t)
+    → let t = table (c .before) in (length t ≡ rowPlace (c .read16 .result)) × (c .read16 .result ≡ rowCount t)
 count c =
     (head-total _ (head (c .before)) ∙ ap rowPlace (sym (c .read16 .ensures .0)), c .read16 .ensures .0)
 
-rows-kept : (c : tie.Else2) → all rowOk (rowsOf (c .before .before .before .before .before .before .args .t .now)) ≡ true
+rows-kept : (c : tie.Else2) → all rowOk (rowsOf (table (c .before .before .before))) ≡ true
 rows-kept c = sym (c .before .rows-ok .ensures) ∙ not-false _ (c .if2 .left)
 
 rows-ok-requires : tie.Need-rows-ok-requires

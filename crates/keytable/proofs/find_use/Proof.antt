@@ -15,13 +15,16 @@ use Rattle.keytable.proofs.find_use.Statement.{statement}
 use Rattle.keytable.proofs.find_use.Tie as tie
 
 -- what is known past each test
-accepted : (c : tie.After-enum-told) → tableOk (c .before .before .before .before .before .args .t .now) ≡ true
+abbrev start : tie.After-enum-told → tie.Start
+start c = c .before .before .before .before .before
+
+accepted : (c : tie.After-enum-told) → tableOk (start c .args .t .now) ≡ true
 accepted c = rows-accepted _ _ _ (c .before .before .check .ensures) (c .enum-told .given .1)
 
-given : (c : tie.Else1) → eqb (length (c .before .before .before .before .before .before .args .name .now)) 0 ≡ false
+given : (c : tie.Else1) → eqb (length (start (c .before) .args .name .now)) 0 ≡ false
 given c = ne-eqb _ _ (c .if1 .left)
 
-short : (c : tie.Else2) → ltb nameMax (length (c .before .before .before .before .before .before .before .args .name .now)) ≡ false
+short : (c : tie.Else2) → ltb nameMax (length (start (c .before .before) .args .name .now)) ≡ false
 short c = le-ltb _ _ (c .if2 .left)
 
 returns : tie.Need-returns

@@ -1,11 +1,13 @@
 -- `descriptors::cursor::step_at` meets its contract: a step from `at` is the step from the place.
 -- Assumes nothing.
 use mathlib.Core.Path.{_≡_, sym, _∙_}
-use Prim.Native.Nat.{_+_, _-_, _≤_}
+use mathlib.Core.List.{List}
+use Prim.Native.Nat.{ℕ, _+_, _-_, _≤_}
 use native.Mathlib.Omega.{arith}
 use borrow.Author.Needs.{needs}
 use borrow.Author.Tests.{not-true, not-false}
-use lib.ListN.{length, drop}
+use lib.ListN.{length, getD, drop}
+use Rattle.descriptors.specs.Descriptor.{descriptorHeadSize, sizeOf}
 use Rattle.descriptors.specs.Parse.{split}
 use Rattle.descriptors.specs.Steps.{splitStep, stepAnswer}
 use Rattle.descriptors.proofs.Split.{size-in}
@@ -35,41 +37,48 @@ returns-2 c =
     (sym (at-size .before .before .loop .inv .1)
     ∙ step-stop _ _ (at-size .before .loop-test .taken) (sym (at-size .size-at .ensures) ∙ c .if2 .taken) _ _)
 
--- the descriptor at `at`: its size lies in the list
-ended : (c : tie.Else2 Inv-loop μ-loop)
-    → (4 ≤ c .before .before .size-at .result)
-    × (c .before .before .before .before .loop .at + c .before .before .size-at .result ≤ length (c .before .before .before .before .before .before .before .args .list .now))
-ended c = size-in _ _ _ (c .before .before .size-at .ensures) (c .if2 .left)
+-- a descriptor stands at `at`: its size lies in the list
+module _ (c : tie.Else2 Inv-loop μ-loop) where
+  abbrev list : List ℕ
+  list = c .before .before .before .before .before .before .before .args .list .now
+
+  abbrev here : ℕ
+  here = c .before .before .before .before .loop .at
+
+  abbrev size : ℕ
+  size = c .before .before .size-at .result
+
+  size-is : size ≡ sizeOf (drop here list)
+  size-is = c .before .before .size-at .ensures
+
+  type-is : c .before .read8 .result ≡ getD list here 0
+  type-is = c .before .read8 .ensures .0
+
+  ended : (descriptorHeadSize ≤ size) × (here + size ≤ length list)
+  ended = size-in list here size size-is (c .if2 .left)
 
 returns-3 : tie.Need-returns-3 Inv-loop μ-loop
 returns-3 c =
     let e = c .before .before in
-    let l = e .before .before .before .before in
     sym
-    (sym (l .loop .inv .1)
-    ∙ step-one (l .before .before .before .args .list .now) (l .loop .at) _ _ (e .before .before .size-at .ensures) (e .if2 .left) (e .before .read8 .ensures .0) _ _
-    (sym (c .before .reserved .ensures) ∙ not-true _ (c .if3 .taken)))
+    (sym (e .before .before .before .before .loop .inv .1)
+    ∙ step-one (list e) (here e) _ _ (size-is e) (e .if2 .left) (type-is e) _ _ (sym (c .before .reserved .ensures) ∙ not-true _ (c .if3 .taken)))
 
 returns-4 : tie.Need-returns-4 Inv-loop μ-loop
 returns-4 c =
     let r = c .before in
     let e = r .before .before in
-    let l = e .before .before .before .before in
     sym
-    (sym (l .loop .inv .1)
-    ∙ step-refused (l .before .before .before .args .list .now) (l .loop .at) _ _ (e .before .before .size-at .ensures) (e .if2 .left) (e .before .read8 .ensures .0) _ _
-    (sym (r .before .reserved .ensures) ∙ not-false _ (r .if3 .left)) (c .if4 .taken))
+    (sym (e .before .before .before .before .loop .inv .1)
+    ∙ step-refused (list e) (here e) _ _ (size-is e) (e .if2 .left) (type-is e) _ _ (sym (r .before .reserved .ensures) ∙ not-false _ (r .if3 .left)) (c .if4 .taken))
 
 loop-again : tie.Need-loop-again Inv-loop μ-loop
 loop-again c =
     let r = c .before in
-    let e = r .before .before in
-    let l = e .before .before .before .before in (
+    let e = r .before .before in (
       ended e .1,
-      sym
-          (step-turn (l .before .before .before .args .list .now) (l .loop .at) _ _ (e .before .before .size-at .ensures) (e .if2 .left) (e .before .read8 .ensures .0) _ _
-          (sym (r .before .reserved .ensures) ∙ not-false _ (r .if3 .left)) (c .if4 .left))
-          ∙ l .loop .inv .1,
+      sym (step-turn (list e) (here e) _ _ (size-is e) (e .if2 .left) (type-is e) _ _ (sym (r .before .reserved .ensures) ∙ not-false _ (r .if3 .left)) (c .if4 .left))
+          ∙ e .before .before .before .before .loop .inv .1,
     )
 
 returns-5 : tie.Need-returns-5 Inv-loop μ-loop

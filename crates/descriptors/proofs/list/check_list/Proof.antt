@@ -1,12 +1,14 @@
 -- `descriptors::list::check_list` meets its contract: what is left at `at` decides, and what it counts is added to the count so far.
 -- Assumes nothing.
 use mathlib.Core.Path.{_≡_, refl, sym, ap, _∙_}
+use mathlib.Core.List.{List}
 use Prim.Native.Nat.{ℕ, _+_, _-_, _≤_}
 use native.Mathlib.Nat.{add-assoc, add-zero, zero-add}
 use native.Mathlib.Omega.{arith}
 use borrow.Author.Needs.{needs}
 use borrow.Author.Tests.{not-true, not-false}
-use lib.ListN.{length, drop}
+use lib.ListN.{length, getD, drop}
+use Rattle.descriptors.specs.Descriptor.{descriptorHeadSize, sizeOf}
 use Rattle.descriptors.specs.Parse.{split}
 use Rattle.descriptors.specs.Tested.{splitOk, listOk, unreserved, countOf}
 use Rattle.descriptors.proofs.Split.{size-in}
@@ -36,36 +38,48 @@ returns c =
     (list-refused _ _ _
     (sym (l .loop .inv .2) ∙ test-stop _ _ (at-size .before .loop-test .taken) (sym (at-size .size-at .ensures) ∙ c .if1 .taken) _ _ _))
 
--- the descriptor at `at`: its size lies in the list
+-- a descriptor stands at `at`: its size lies in the list
 module _ (c : tie.Else1 Inv-loop μ-loop) where
-  ended : (4 ≤ c .before .before .size-at .result) × (c .before .before .before .before .loop .at + c .before .before .size-at .result ≤ length (c .before .before .before .before .before .before .args .list .now))
-  ended = size-in _ _ _ (c .before .before .size-at .ensures) (c .if1 .left)
+  abbrev list : List ℕ
+  list = c .before .before .before .before .before .before .args .list .now
+
+  abbrev place : ℕ
+  place = c .before .before .before .before .loop .at
+
+  abbrev size : ℕ
+  size = c .before .before .size-at .result
+
+  size-is : size ≡ sizeOf (drop place list)
+  size-is = c .before .before .size-at .ensures
+
+  type-is : c .before .read8 .result ≡ getD list place 0
+  type-is = c .before .read8 .ensures .0
+
+  ended : (descriptorHeadSize ≤ size) × (place + size ≤ length list)
+  ended = size-in list place size size-is (c .if1 .left)
 
 returns-2 : tie.Need-returns-2 Inv-loop μ-loop
 returns-2 c =
     let e = c .before .before in
-    let l = e .before .before .before .before in
     sym
     (list-refused _ _ _
-    (sym (l .loop .inv .2)
-    ∙ test-refused (l .before .before .args .list .now) (l .loop .at) _ _ (e .before .before .size-at .ensures) (e .if1 .left) (e .before .read8 .ensures .0) _ _ _ (sym (c .before .admitted .ensures) ∙ not-true _ (c .if2 .taken))))
+    (sym (e .before .before .before .before .loop .inv .2)
+    ∙ test-refused (list e) (place e) _ _ (size-is e) (e .if1 .left) (type-is e) _ _ _ (sym (c .before .admitted .ensures) ∙ not-true _ (c .if2 .taken))))
 
 loop-again : tie.Need-loop-again Inv-loop μ-loop
 loop-again c =
     let e = c .before .before .before in
     let l = e .before .before .before .before in
-    let list = l .before .before .args .list .now in
     let label = l .before .before .args .label in
     let strict = l .before .before .args .strict in
-    let size = e .before .before .size-at .ensures in
-    let is = e .before .read8 .ensures .0 in
-    let left = split (drop (l .loop .at + e .before .before .size-at .result) list) in (
+    let left = split (drop (place e + size e) (list e)) in (
       ended e .1,
       omega (arith, ended e .0),
-      sym (test-turn list (l .loop .at) _ _ size (e .if1 .left) is label strict _ (sym (c .before .before .admitted .ensures) ∙ not-false _ (c .before .if2 .left))) ∙ l .loop .inv .2,
+      sym (test-turn (list e) (place e) _ _ (size-is e) (e .if1 .left) (type-is e) label strict _ (sym (c .before .before .admitted .ensures) ∙ not-false _ (c .before .if2 .left)))
+          ∙ l .loop .inv .2,
       add-assoc (l .loop .count) _ _
           ∙ ap (λ (m : ℕ). l .loop .count + m)
-          (ap (λ (m : ℕ). m + length (unreserved label (left .0))) (c .counted .ensures .0) ∙ sym (count-turn list (l .loop .at) _ _ size (e .if1 .left) is label))
+          (ap (λ (m : ℕ). m + length (unreserved label (left .0))) (c .counted .ensures .0) ∙ sym (count-turn (list e) (place e) _ _ (size-is e) (e .if1 .left) (type-is e) label))
           ∙ l .loop .inv .3,
     )
 

@@ -7,7 +7,7 @@ use native.Mathlib.Omega.{arith}
 use lib.ListN.{drop}
 use Rattle.keytable.specs.Table.{rowPlace, rowsOf}
 use Rattle.keytable.specs.Find.{foundSays, placeFrom}
-use Rattle.keytable.proofs.Lookup.{place-here, place-turn, place-end}
+use Rattle.keytable.proofs.Lookup.{placeFrom-here, placeFrom-turn, placeFrom-end}
 use Rattle.keytable.proofs.rows.find_from.Statement.{statement}
 use Rattle.keytable.proofs.rows.find_from.Tie as tie
 
@@ -25,19 +25,19 @@ returns : tie.Need-returns Inv-loop μ-loop
 returns c =
     let a = c .before .before .before .before .before .before .before .args in
     let l = c .before .before .before .before .loop in
-    ap foundSays (sym (l .inv .1 ∙ place-here (a .t .now) (a .name .now) (l .i) (omega arith) (cc)))
+    ap foundSays (sym (l .inv .1 ∙ placeFrom-here (a .t .now) (a .name .now) (l .i) (omega arith) (cc)))
 
 loop-again : tie.Need-loop-again Inv-loop μ-loop
 loop-again c =
     let a = c .before .before .before .before .before .before .before .args in
     let l = c .before .before .before .before .loop in
-    (omega arith, l .inv .1 ∙ place-turn (a .t .now) (a .name .now) (l .i) (omega arith) (cc))
+    (omega arith, l .inv .1 ∙ placeFrom-turn (a .t .now) (a .name .now) (l .i) (omega arith) (cc))
 
 returns-2 : tie.Need-returns-2 Inv-loop μ-loop
 returns-2 c =
     let a = c .before .before .before .before .args in
     let l = c .before .loop in
-    ap foundSays (sym (l .inv .1 ∙ place-end (a .t .now) (a .name .now) (l .i) (omega arith)))
+    ap foundSays (sym (l .inv .1 ∙ placeFrom-end (a .t .now) (a .name .now) (l .i) (omega arith)))
 
 pub find-from-spec : {M : Type 1} → statement M
 find-from-spec =

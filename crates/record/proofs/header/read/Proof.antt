@@ -1,7 +1,7 @@
 -- `record::header::read` meets its contract: each case by the tests that led there.
 -- Assumes nothing.
 use mathlib.Core.Path.{_≡_, sym, ap, ap₂, _∙_}
-use mathlib.Core.Bool.{true, false}
+use mathlib.Core.Bool.{Bool, true, false}
 use mathlib.Core.List.{List, [], _∷_}
 use Prim.Native.Nat.{ℕ}
 use borrow.Author.Tests.{not-true, not-false}
@@ -13,43 +13,48 @@ use borrow.Author.Needs.{needs}
 use Rattle.record.proofs.header.read.Statement.{statement}
 use Rattle.record.proofs.header.read.Tie as tie
 
--- what the tests that were passed say of the record
-layout-good : (c : tie.Else1) → layoutOk (c .before .before .before .args .r .now) ≡ true
-layout-good c = sym (c .before .layout-ok .ensures) ∙ not-false (c .before .layout-ok .result) (c .if1 .left)
+-- what each test says of the record
+abbrev sealed : tie.After-layout-ok → List ℕ
+sealed c = c .before .before .args .r .now
 
-mode-good : (c : tie.Else2) → namesMode (modeIn (c .before .before .before .before .before .before .args .r .now)) ≡ true
-mode-good c =
-    let m = c .before .before .mode-in in
-    ap namesMode (sym (m .ensures)) ∙ sym (c .before .names-mode .ensures) ∙ not-false (c .before .names-mode .result) (c .if2 .left)
+layout : (c : tie.After-layout-ok) (b : Bool) → c .layout-ok .result ≡ b → layoutOk (sealed c) ≡ b
+layout c b e = sym (c .layout-ok .ensures) ∙ e
+
+layout-good : (c : tie.Else1) → layoutOk (sealed (c .before)) ≡ true
+layout-good c = layout (c .before) true (not-false (c .before .layout-ok .result) (c .if1 .left))
+
+mode : (c : tie.After-names-mode) (b : Bool) → c .names-mode .result ≡ b → namesMode (modeIn (sealed (c .before .before .before))) ≡ b
+mode c b e = ap namesMode (sym (c .before .mode-in .ensures)) ∙ sym (c .names-mode .ensures) ∙ e
+
+mode-good : (c : tie.Else2) → namesMode (modeIn (sealed (c .before .before .before .before))) ≡ true
+mode-good c = mode (c .before) true (not-false (c .before .names-mode .result) (c .if2 .left))
+
+module _ (c : tie.After-passes-maximum) where
+  abbrev named : tie.Else2
+  named = c .before .before .before
+
+  abbrev tested : tie.Else1
+  tested = named .before .before .before
+
+  maxima : (b : Bool) → let r = sealed (tested .before) in c .passes-maximum .result ≡ b → passes (nameSize r) (countIn r) ≡ b
+  maxima b e = ap₂ passes (sym (c .before .before .read16 .ensures .0)) (sym (c .before .read32 .ensures .0)) ∙ sym (c .passes-maximum .ensures) ∙ e
 
 returns : tie.Need-returns
-returns c =
-    let r = c .before .before .before .args .r .now in
-    sym (header-two r (sym (c .before .layout-ok .ensures) ∙ not-true (c .before .layout-ok .result) (c .if1 .taken)))
+returns c = sym (header-two _ (layout (c .before) false (not-true (c .before .layout-ok .result) (c .if1 .taken))))
 
 returns-2 : tie.Need-returns-2
-returns-2 c =
-    let r = c .before .before .before .before .before .before .args .r .now in
-    let m = c .before .before .mode-in in
-    let bad : namesMode (modeIn r) ≡ false = ap namesMode (sym (m .ensures)) ∙ sym (c .before .names-mode .ensures) ∙ not-true (c .before .names-mode .result) (c .if2 .taken) in
-    sym (header-three r (layout-good (c .before .before .before)) bad)
+returns-2 c = sym (header-three _ (layout-good (c .before .before .before)) (mode (c .before) false (not-true (c .before .names-mode .result) (c .if2 .taken))))
 
 returns-3 : tie.Need-returns-3
 returns-3 c =
-    let at = c .before .before .before .before in
-    let r = at .before .before .before .before .before .before .args .r .now in
-    let long : passes (nameSize r) (countIn r) ≡ true =
-    ap₂ passes (sym (c .before .before .before .read16 .ensures .0)) (sym (c .before .before .read32 .ensures .0)) ∙ sym (c .before .passes-maximum .ensures) ∙ c .if3 .taken in
-    sym (header-four r (layout-good (at .before .before .before)) (mode-good at) long)
+    let m = c .before in
+    sym (header-four _ (layout-good (tested m)) (mode-good (named m)) (maxima m true (c .if3 .taken)))
 
 returns-4 : tie.Need-returns-4
 returns-4 c =
-    let at = c .before .before .before .before in
-    let r = at .before .before .before .before .before .before .args .r .now in
-    let k = c .before .before .before .read16 .ensures .0 in
-    let n = c .before .before .read32 .ensures .0 in
-    let short : passes (nameSize r) (countIn r) ≡ false = ap₂ passes (sym k) (sym n) ∙ sym (c .before .passes-maximum .ensures) ∙ c .if3 .left in
-    fields (at .before .before .mode-in .ensures) k n ∙ sym (header-zero r (layout-good (at .before .before .before)) (mode-good at) short)
+    let m = c .before in
+    fields (named m .before .before .mode-in .ensures) (m .before .before .read16 .ensures .0) (m .before .read32 .ensures .0)
+    ∙ sym (header-zero _ (layout-good (tested m)) (mode-good (named m)) (maxima m false (c .if3 .left)))
   where
     fields : {u u′ k k′ n n′ : ℕ} → u ≡ u′ → k ≡ k′ → n ≡ n′ → _≡_ {A = ℕ × List ℕ} (0, u ∷ k ∷ n ∷ []) (0, u′ ∷ k′ ∷ n′ ∷ [])
     fields a b c = cc (a, b, c)

@@ -19,7 +19,7 @@ use Rattle.keytable.specs.Row.{rowKeySize, useOf, rowKey}
 use Rattle.keytable.specs.Table.{tableOk, dataRow, rowAt}
 use Rattle.keytable.proofs.Calls.{rows-accepted, broken-refused}
 use Rattle.keytable.proofs.RowFound.{no-row, the-row, row-key}
-use Rattle.record.specs.Record.{modeIn, countIn, nameSize, nameIn}
+use Rattle.record.specs.Record.{nameAt, modeIn, countIn, nameSize, nameIn}
 use Rattle.record.specs.Read.{headerSays, headerAnswer}
 use Rattle.record.specs.Seal.{callersMax}
 use Rattle.record.specs.Open.{authenticBy, plaintextBy}
@@ -81,7 +81,7 @@ module _ (c : tie.Else2) where
 -- the name that is looked up is the record's
 name-is : (c : tie.After-part) → c .part .result .now ≡ nameIn (sealed (known (c .before)))
 unfolding nameIn
-name-is c = c .part .ensures ∙ ap (partOf (sealed (known (c .before))) 24) (is-read (known (c .before)) .size-is)
+name-is c = c .part .ensures ∙ ap (partOf (sealed (known (c .before))) nameAt) (is-read (known (c .before)) .size-is)
 
 -- past the lookup: the row that was found is that of the record's name
 module _ (c : tie.After-at) where

@@ -20,6 +20,7 @@ use Rattle.keytable.proofs.Laws.{finds-row}
 use Rattle.keytable.proofs.RowFound.{not-found}
 use Rattle.modes.specs.Calls.{textMax}
 use Rattle.modes.specs.Modes.{namesMode, modeOf}
+use Rattle.record.specs.Record.{ivAt}
 use Rattle.record.specs.Seal.{callersMax, sealedSize}
 use Rattle.record.proofs.Lengths.{iv-small, tag-small, tooLong, within-maxima}
 use Rattle.record.proofs.SealNumbers.{wrongLength, SealMeasured, ready-one, ready-two, ready-four, ready-five, ready-six, ready-seven, ready-zero}
@@ -72,9 +73,9 @@ module _ (c : tie.After-tag-size) where
   tags : c .tag-size .result ≡ modeOf (useIn (row at)) .tagSize
   tags = c .tag-size .ensures ∙ ap (λ (u : ℕ). modeOf u .tagSize) (use-is at)
 
-  room : (b : Bool) → let a = start at .args in ltb (a .room) (24 + length (a .name .now) + at .iv-size .result + a .n + c .tag-size .result) ≡ b
+  room : (b : Bool) → let a = start at .args in ltb (a .room) (ivAt (length (a .name .now)) + at .iv-size .result + a .n + c .tag-size .result) ≡ b
       → ltb (a .room) (sealedSize (row at) (a .name .now) (a .n)) ≡ b
-  room b e = let a = start at .args in ap₂ (λ (v t : ℕ). ltb (a .room) (24 + length (a .name .now) + v + a .n + t)) (sym (ivs at)) (sym tags) ∙ e
+  room b e = let a = start at .args in ap₂ (λ (v t : ℕ). ltb (a .room) (ivAt (length (a .name .now)) + v + a .n + t)) (sym (ivs at)) (sym tags) ∙ e
 
 -- past the room's test: those before the row's own are passed
 module _ (c : tie.Else3) where
