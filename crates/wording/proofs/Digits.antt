@@ -155,29 +155,11 @@ unfolding digitsOf
 digitsOf-append capital [] t = refl
 digitsOf-append capital (b ∷ s) t = ap (λ (l : List ℕ). digitOf capital (b / 16) ∷ digitOf capital (b % 16) ∷ l) (digitsOf-append capital s t)
 
-module _ (capital : Bool) (s out : List ℕ) (i : ℕ) where
-  pub digits-turn : i < length s → 2 * length s ≤ length out
-      → set (set (digitsOf capital (take i s) ++ drop (2 * i) out) (2 * i) (digitOf capital (getD s i 0 / 16))) (2 * i + 1) (digitOf capital (getD s i 0 % 16))
-      ≡ digitsOf capital (take (i + 1) s) ++ drop (2 * (i + 1)) out
-  unfolding digitsOf
-  digits-turn h r =
-      let p : List ℕ = digitsOf capital (take i s) in
-      let high : ℕ = digitOf capital (getD s i 0 / 16) in
-      let low : ℕ = digitOf capital (getD s i 0 % 16) in
-      let more : take (i + 1) s ≡ take i s ++ getD s i 0 ∷ [] = rw add-one (take-suc s i 0 h) in
-      let next : 2 * i + 1 + 1 ≡ 2 * (i + 1) = omega arith in
-      let size : length p ≡ 2 * i = length-digitsOf capital (take i s) ∙ ap (λ (n : ℕ). 2 * n) (length-take-le i s (omega arith)) in
-      ap (λ (l : List ℕ). set l (2 * i + 1) low) (more-written p out (2 * i) high size (omega arith))
-      ∙ more-written (p ++ high ∷ []) out (2 * i + 1) low (length-append p (high ∷ []) ∙ ap (λ (n : ℕ). n + 1) size) (omega arith)
-      ∙ ap₂ (λ (l : List ℕ) (n : ℕ). l ++ drop n out)
-      (append-snoc p high (low ∷ []) ∙ sym (digitsOf-append capital (take i s) (getD s i 0 ∷ [])) ∙ ap (digitsOf capital) (sym more)) next
-
-  pub digits-end : i ≡ length s → 2 * length s ≤ length out → digitsOf capital (take i s) ++ drop (2 * i) out ≡ over (digitsOf capital s) out
-  digits-end e room =
-      let whole : take i s ≡ s = take-all i s (omega arith) in
-      let size : length (digitsOf capital s) ≡ 2 * i = length-digitsOf capital s ∙ ap (λ (n : ℕ). 2 * n) (sym e) in
-      ap (λ (l : List ℕ). digitsOf capital l ++ drop (2 * i) out) whole
-      ∙ sym (over-fits (digitsOf capital s) out (omega arith) ∙ ap (λ (n : ℕ). digitsOf capital s ++ drop n out) size)
+-- one byte's digits more
+pub digits-turn : (capital : Bool) (s : List ℕ) (i : ℕ) → i < length s
+    → digitsOf capital (take (i + 1) s) ≡ digitsOf capital (take i s) ++ digitOf capital (getD s i 0 / 16) ∷ digitOf capital (getD s i 0 % 16) ∷ []
+unfolding digitsOf
+digits-turn capital s i h = rw (add-one, take-suc s i 0 h) (digitsOf-append capital (take i s) (getD s i 0 ∷ []))
 
 -- ---- the calls
 

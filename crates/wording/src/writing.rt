@@ -1,6 +1,6 @@
 // Text written into lent room: each function puts all of its text at a place and answers the place after it, or, where
 // the text does not fit, changes nothing and answers NOWHERE. No text fits at NOWHERE.
-use crate::hex::fill_digits;
+use crate::hex::digit_of;
 use octets::strings::put;
 ghost use mathlib.Core.Path.{_≡_};
 ghost use Prim.Native.Nat.{_+_, _<_};
@@ -83,8 +83,14 @@ pub fn put_hex(out: &mut [u8], at: usize, s: &[u8], capital: bool) -> usize
     if !has_room(out.len(), at, 2 * s.len()) {
         return NOWHERE;
     }
-    fill_digits(s, capital, &mut out[at..]);
-    at + 2 * s.len()
+    let mut end = at;
+    let mut i = 0;
+    while i < s.len() {
+        end = put_byte(out, end, digit_of(s[i] / 16, capital));
+        end = put_byte(out, end, digit_of(s[i] % 16, capital));
+        i += 1;
+    }
+    end
 }
 
 // A word, a space, a number and a newline.
