@@ -1,6 +1,6 @@
 -- Hexadecimal digits and the bytes they make: each digit's value, and strings of them one pair at a time.
 -- Assumes nothing.
-use mathlib.Core.Path.{_≡_, refl, sym, ap, ap₂, _∙_}
+use mathlib.Core.Path.{_≡_, refl, ap, ap₂, _∙_}
 use mathlib.Core.Bool.{Bool, true, false}
 use mathlib.Core.List.{List, [], _∷_, _++_}
 use Prim.Native.Nat.{ℕ, zero, suc, _+_, _-_, _*_, _/_, _%_, _≤_, _<_}
@@ -8,13 +8,12 @@ use Prim.Native.Char.{code}
 use native.Mathlib.Numerals.{add-one}
 use native.Mathlib.Omega.{arith}
 use lib.Dec.{eqb, leb, ltb}
-use lib.ListN.{length, getD, set, take, drop, length-append}
-use lib.Seq.{take-suc, drop-cons, take-all, set-at, append-snoc, length-take-le}
+use lib.ListN.{length, getD, take}
+use lib.Seq.{take-suc}
 use borrow.Author.Tests.{eqb-true, leb-true, ltb-true, ltb-false, lt-ltb, le-ltb, le-leb, lt-leb}
 use Rattle.octets.specs.Lent.{when, over}
 use Rattle.octets.specs.Tests.{all}
 use Rattle.octets.proofs.Tests.{and-left, and-right}
-use Rattle.octets.proofs.Lent.{over-fits}
 use Rattle.wording.specs.Decimal.{between, isDecimalDigit, decimalDigit}
 use Rattle.wording.specs.Hex.{isSmallDigit, isCapitalDigit, isHexDigit, digitValue, digitOf, isHex, hexByte, hexBytes, digitsOf, hexRead}
 
@@ -94,12 +93,6 @@ module _ (d : ℕ) (below : d < 16) where
       go true t = rw (digit-low capital d (ltb-true d 10 t)) (counts-low (ltb-true d 10 t))
       go false t = rw (digit-high capital d (ltb-false d 10 t)) (counts-high capital (ltb-false d 10 t))
 
--- ---- one store more into a lent output: the p elements before it are written, and the rest is as it was
-
-more-written : (p d : List ℕ) (i v : ℕ) → length p ≡ i → i < length d → set (p ++ drop i d) i v ≡ (p ++ v ∷ []) ++ drop (i + 1) d
-more-written p d i v e h =
-    rw (add-one, drop-cons d i 0 h) (set-at p (getD d i 0) (drop (suc i) d) v i e ∙ sym (append-snoc p v (drop (suc i) d)))
-
 -- ---- bytes
 
 pub length-hexBytes : (k : ℕ) (s : List ℕ) → length s ≡ 2 * k → length (hexBytes s) ≡ k
@@ -110,38 +103,15 @@ length-hexBytes k (a ∷ []) e = absurd (omega arith)
 length-hexBytes zero (a ∷ b ∷ s) e = absurd (omega arith)
 length-hexBytes (suc k) (a ∷ b ∷ s) e = ap suc (length-hexBytes k s (omega arith))
 
-hexBytes-append : (k : ℕ) (s t : List ℕ) → length s ≡ 2 * k → hexBytes (s ++ t) ≡ hexBytes s ++ hexBytes t
+pub getD-hexBytes : (s : List ℕ) (i : ℕ) → i < length s / 2 → getD (hexBytes s) i 0 ≡ hexByte (getD s (2 * i) 0) (getD s (2 * i + 1) 0)
 unfolding hexBytes
-hexBytes-append k [] t e = refl
-hexBytes-append k (a ∷ []) t e = absurd (omega arith)
-hexBytes-append zero (a ∷ b ∷ s) t e = absurd (omega arith)
-hexBytes-append (suc k) (a ∷ b ∷ s) t e = ap (λ (l : List ℕ). hexByte a b ∷ l) (hexBytes-append k s t (omega arith))
-
-take-two : (s : List ℕ) (n : ℕ) → n + 1 < length s → take (n + 2) s ≡ take n s ++ getD s n 0 ∷ getD s (n + 1) 0 ∷ []
-take-two s n h =
-    let two : n + 2 ≡ suc (n + 1) = omega arith in
-    let one : n + 1 ≡ suc n = omega arith in
-    let front : take (n + 1) s ≡ take n s ++ getD s n 0 ∷ [] = rw one (take-suc s n 0 (omega arith)) in
-    rw two (take-suc s (n + 1) 0 h ∙ ap (λ (l : List ℕ). l ++ getD s (n + 1) 0 ∷ []) front
-    ∙ append-snoc (take n s) (getD s n 0) (getD s (n + 1) 0 ∷ []))
-
-module _ (word out : List ℕ) (i : ℕ) where
-  pub bytes-turn : i < length word / 2 → i < length out
-      → set (hexBytes (take (2 * i) word) ++ drop i out) i (hexByte (getD word (2 * i) 0) (getD word (2 * i + 1) 0))
-      ≡ hexBytes (take (2 * (i + 1)) word) ++ drop (i + 1) out
-  unfolding hexBytes
-  bytes-turn h r =
-      let next : 2 * (i + 1) ≡ 2 * i + 2 = omega arith in
-      let size : length (take (2 * i) word) ≡ 2 * i = length-take-le (2 * i) word (omega arith) in
-      more-written (hexBytes (take (2 * i) word)) out i _ (length-hexBytes i (take (2 * i) word) size) r
-      ∙ ap (λ (l : List ℕ). l ++ drop (i + 1) out)
-      (sym (hexBytes-append i (take (2 * i) word) _ size) ∙ ap hexBytes (sym (ap (λ (n : ℕ). take n word) next ∙ take-two word (2 * i) (omega arith))))
-
-  pub bytes-end : length word % 2 ≡ 0 → i ≡ length word / 2 → i ≤ length out → hexBytes (take (2 * i) word) ++ drop i out ≡ over (hexBytes word) out
-  bytes-end even e room =
-      let whole : take (2 * i) word ≡ word = take-all (2 * i) word (omega arith) in
-      let size : length (hexBytes word) ≡ i = length-hexBytes i word (omega arith) in
-      ap (λ (l : List ℕ). hexBytes l ++ drop i out) whole ∙ sym (over-fits (hexBytes word) out (omega arith) ∙ ap (λ (n : ℕ). hexBytes word ++ drop n out) size)
+getD-hexBytes [] i h = absurd (omega arith)
+getD-hexBytes (a ∷ []) i h = absurd (omega arith)
+getD-hexBytes (a ∷ b ∷ s) zero h = refl
+getD-hexBytes (a ∷ b ∷ s) (suc i) h =
+    let next : 2 * suc i ≡ suc (suc (2 * i)) = omega arith in
+    let after : suc (suc (2 * i)) + 1 ≡ suc (suc (2 * i + 1)) = omega arith in
+    rw (next, after) (getD-hexBytes s i (omega arith))
 
 -- ---- digits
 
