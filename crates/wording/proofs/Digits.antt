@@ -1,6 +1,6 @@
 -- Hexadecimal digits and the bytes they make: each digit's value, and strings of them one pair at a time.
 -- Assumes nothing.
-use mathlib.Core.Path.{_≡_, refl, ap, ap₂, _∙_}
+use mathlib.Core.Path.{_≡_, refl, sym, ap, ap₂, _∙_}
 use mathlib.Core.Bool.{Bool, true, false}
 use mathlib.Core.List.{List, [], _∷_, _++_}
 use Prim.Native.Nat.{ℕ, zero, suc, _+_, _-_, _*_, _/_, _%_, _≤_, _<_}
@@ -19,27 +19,28 @@ use Rattle.wording.specs.Hex.{isSmallDigit, isCapitalDigit, isHexDigit, 
 
 -- ---- one digit
 
-module _ (low high c : ℕ) (h : between low high c ≡ true) where
-  pub between-low : low ≤ c
-  between-low = leb-true low c (and-left (leb low c) (leb c high) h)
+between-bounds : (low high c : ℕ) → between low high c ≡ true → (low ≤ c) × (c ≤ high)
+between-bounds low high c h =
+    (leb-true low c (and-left (leb low c) (leb c high) h), leb-true c high (and-right (leb low c) (leb c high) h))
 
-  pub between-high : c ≤ high
-  between-high = leb-true c high (and-right (leb low c) (leb c high) h)
+-- what each kind of digit counts, from its first on
+abbrev pub Counted : ℕ → ℕ → ℕ → ℕ → Type 0
+Counted low high c v = ((low ≤ c) × (c ≤ high)) × (v ≡ digitValue c)
 
 module _ (c : ℕ) where
-  pub value-decimal : isDecimalDigit c ≡ true → digitValue c ≡ c - code "0"
+  pub value-decimal : isDecimalDigit c ≡ true → Counted (code "0") (code "9") c (c - code "0")
   unfolding digitValue
-  value-decimal h = rw h
+  value-decimal h = (between-bounds (code "0") (code "9") c h, rw h)
 
-  pub value-small : isDecimalDigit c ≡ false → isSmallDigit c ≡ true → digitValue c ≡ c - code "a" + 10
+  pub value-small : isDecimalDigit c ≡ false → isSmallDigit c ≡ true → Counted (code "a") (code "f") c (c - code "a" + 10)
   unfolding digitValue
-  value-small h₁ h₂ = rw (h₁, h₂)
+  value-small h₁ h₂ = (between-bounds (code "a") (code "f") c h₂, rw (h₁, h₂))
 
-  pub value-capital : isDecimalDigit c ≡ false → isSmallDigit c ≡ false → isCapitalDigit c ≡ true → digitValue c ≡ c - code "A" + 10
+  pub value-capital : isDecimalDigit c ≡ false → isSmallDigit c ≡ false → isCapitalDigit c ≡ true → Counted (code "A") (code "F") c (c - code "A" + 10)
   unfolding digitValue
-  value-capital h₁ h₂ h₃ = rw (h₁, h₂, h₃)
+  value-capital h₁ h₂ h₃ = (between-bounds (code "A") (code "F") c h₃, rw (h₁, h₂, h₃))
 
-  pub value-none : isDecimalDigit c ≡ false → isSmallDigit c ≡ false → isCapitalDigit c ≡ false → digitValue c ≡ 0
+  pub value-none : isDecimalDigit c ≡ false → isSmallDigit c ≡ false → isCapitalDigit c ≡ false → 0 ≡ digitValue c
   unfolding digitValue
   value-none h₁ h₂ h₃ = rw (h₁, h₂, h₃)
 
@@ -70,7 +71,7 @@ module _ (d : ℕ) (below : d < 16) where
   unfolding isHexDigit
   counts-low h =
       let range = between-right (code "0") (code "9") (decimalDigit d) (omega arith) (omega arith) in
-      (rw range, value-decimal (decimalDigit d) range ∙ omega arith)
+      (rw range, sym (value-decimal (decimalDigit d) range .1) ∙ omega arith)
 
   counts-high : (capital : Bool) → 10 ≤ d → Counts (when capital (code "A") (code "a") + (d - 10)) d
   unfolding isHexDigit
@@ -79,12 +80,12 @@ module _ (d : ℕ) (below : d < 16) where
       let no-decimal = between-over (code "0") (code "9") c (omega arith) (omega arith) in
       let no-small = between-under (code "a") (code "f") c (omega arith) in
       let range = between-right (code "A") (code "F") c (omega arith) (omega arith) in
-      (rw (no-decimal, no-small, range), value-capital c no-decimal no-small range ∙ omega arith)
+      (rw (no-decimal, no-small, range), sym (value-capital c no-decimal no-small range .1) ∙ omega arith)
   counts-high false h =
       let c : ℕ = code "a" + (d - 10) in
       let no-decimal = between-over (code "0") (code "9") c (omega arith) (omega arith) in
       let range = between-right (code "a") (code "f") c (omega arith) (omega arith) in
-      (rw (no-decimal, range), value-small c no-decimal range ∙ omega arith)
+      (rw (no-decimal, range), sym (value-small c no-decimal range .1) ∙ omega arith)
 
   pub digit-counts : (capital : Bool) → Counts (digitOf capital d) d
   digit-counts capital = go (ltb d 10) refl
