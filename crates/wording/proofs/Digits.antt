@@ -19,9 +19,15 @@ use Rattle.wording.specs.Hex.{isSmallDigit, isCapitalDigit, isHexDigit, 
 
 -- ---- one digit
 
-between-bounds : (low high c : ℕ) → between low high c ≡ true → (low ≤ c) × (c ≤ high)
-between-bounds low high c h =
-    (leb-true low c (and-left (leb low c) (leb c high) h), leb-true c high (and-right (leb low c) (leb c high) h))
+module _ (low high c : ℕ) (h : between low high c ≡ true) where
+  pub between-low : low ≤ c
+  between-low = leb-true low c (and-left (leb low c) (leb c high) h)
+
+  pub between-high : c ≤ high
+  between-high = leb-true c high (and-right (leb low c) (leb c high) h)
+
+  bounds : (low ≤ c) × (c ≤ high)
+  bounds = (between-low, between-high)
 
 -- what each kind of digit counts, from its first on
 abbrev pub Counted : ℕ → ℕ → ℕ → ℕ → Type 0
@@ -30,15 +36,15 @@ Counted low high c v = ((low ≤ c) × (c ≤ high)) × (v ≡ digitValue c)
 module _ (c : ℕ) where
   pub value-decimal : isDecimalDigit c ≡ true → Counted (code "0") (code "9") c (c - code "0")
   unfolding digitValue
-  value-decimal h = (between-bounds (code "0") (code "9") c h, rw h)
+  value-decimal h = (bounds (code "0") (code "9") c h, rw h)
 
   pub value-small : isDecimalDigit c ≡ false → isSmallDigit c ≡ true → Counted (code "a") (code "f") c (c - code "a" + 10)
   unfolding digitValue
-  value-small h₁ h₂ = (between-bounds (code "a") (code "f") c h₂, rw (h₁, h₂))
+  value-small h₁ h₂ = (bounds (code "a") (code "f") c h₂, rw (h₁, h₂))
 
   pub value-capital : isDecimalDigit c ≡ false → isSmallDigit c ≡ false → isCapitalDigit c ≡ true → Counted (code "A") (code "F") c (c - code "A" + 10)
   unfolding digitValue
-  value-capital h₁ h₂ h₃ = (between-bounds (code "A") (code "F") c h₃, rw (h₁, h₂, h₃))
+  value-capital h₁ h₂ h₃ = (bounds (code "A") (code "F") c h₃, rw (h₁, h₂, h₃))
 
   pub value-none : isDecimalDigit c ≡ false → isSmallDigit c ≡ false → isCapitalDigit c ≡ false → 0 ≡ digitValue c
   unfolding digitValue

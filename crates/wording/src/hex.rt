@@ -5,7 +5,7 @@ ghost use lib.ListN.{length};
 ghost use Rattle.octets.specs.Lent.{over};
 ghost use Rattle.octets.specs.Tests.{all};
 ghost use Rattle.wording.specs.Decimal.{between, isDecimalDigit};
-ghost use Rattle.wording.specs.Hex.{isSmallDigit, isCapitalDigit, isHexDigit, digitValue, hexByte, hexBytes, isHex, digitOf, digitsOf, hexRead};
+ghost use Rattle.wording.specs.Hex.{isSmallDigit, isCapitalDigit, isHexDigit, digitValue, hexByte, hexBytes, isHex, digitOf, hexRead};
 
 fn lies_between(c: u8, low: u8, high: u8) -> bool
     ensures { λ r. ⌜ r ≡ between low high c ⌝ }
