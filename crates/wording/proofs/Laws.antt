@@ -13,27 +13,23 @@ use Rattle.octets.specs.Tests.{all}
 use Rattle.octets.proofs.Bytes.{bytes-head, bytes-tail}
 use Rattle.octets.proofs.Values.{cons-equal}
 use Rattle.octets.proofs.Unique.{unique}
-use Rattle.wording.specs.Decimal.{decimal}
 use Rattle.wording.specs.Hex.{isHexDigit, digitOf, isHex, hexByte, hexBytes, digitsOf, hexRead}
 use Rattle.wording.specs.Writing.{nowhere, putAt}
 use Rattle.wording.specs.Laws.{DecimalReads, DecimalDigits, NoZeroBefore, DigitsLength, ThereAndBack, ReadTestsRise, ReadUnique, NowhereStays, PutUnique}
-use Rattle.wording.proofs.Decimal.{within-reads, within-digits, within-first}
+use Rattle.wording.proofs.Decimal.{decimal-value, decimal-are, decimal-first}
 use Rattle.wording.proofs.Digits.{digit-counts, length-digitsOf, read-done}
 use Rattle.wording.proofs.Wrote.{put-not}
 
 -- ---- decimal digits
 
 pub decimal-reads : DecimalReads
-unfolding decimal
-decimal-reads n = within-reads n n (omega arith)
+decimal-reads = decimal-value
 
 pub decimal-digits : DecimalDigits
-unfolding decimal
-decimal-digits n = within-digits n n (omega arith)
+decimal-digits = decimal-are
 
 pub no-zero-before : NoZeroBefore
-unfolding decimal
-no-zero-before n e = within-first n n (omega arith) e
+no-zero-before n = decimal-first n .1
 
 -- ---- hexadecimal digits
 
