@@ -29,8 +29,11 @@ faultless() {
 
 # same NAME WANTED GOT: two files as one test.
 same() {
-    cmp -s "$2" "$3"
-    test_that $? "$1: $(diff "$2" "$3" 2>&1 | head -n 6 | cut -c 1-200)"
+    if cmp -s "$2" "$3"; then
+        test_that 0
+    else
+        test_that 1 "$1: $(diff "$2" "$3" 2>&1 | head -n 6 | cut -c 1-200)"
+    fi
 }
 
 # each NAME WANTED GOT: every line of two files is a test.
@@ -108,7 +111,8 @@ zeros() { head -c "$1" /dev/zero; }
 # shellcheck source=tests/machine.sh
 . tests/machine.sh || give_up "this machine lacks what the tests are built or run with"
 
-# How a C program is built; a warning is an error.
+# The kit's tools for this machine; and how a C program is built, a warning being an error.
+tools=$kit/on/$(uname -m)/toolchain
 flags=(-std=gnu99 -O2 -Wall -Wextra -Werror)
 
 # x86 PROGRAM WORD ..: runs a program for x86-64.
@@ -153,8 +157,7 @@ proved() {
     must "the program $1 was not proved and built" rt check "$1"
 }
 unit() {
-    local tools built=target/bin/$1
-    tools=$kit/on/$(uname -m)/toolchain
+    local built=target/bin/$1
     shift
     x86 "$tools/lib/ld-linux-x86-64.so.2" --library-path "$tools/lib" "$built" "$@"
 }
