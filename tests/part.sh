@@ -102,8 +102,8 @@ add() {
 
 # ---- Bytes
 
-# The bytes of hexadecimal digits, with or without spaces between; and so many zero bytes.
-hex() { printf '%b' "$(sed -E 's/ *([0-9A-Fa-f]{2})/\\x\1/g' <<<"$*")"; }
+# The bytes of hexadecimal digits, with or without spaces between, `-` being none; and so many zero bytes.
+hex() { printf '%b' "$(sed 's/[ -]//g; s/../\\x&/g' <<<"$*")"; }
 zeros() { head -c "$1" /dev/zero; }
 
 # ---- Programs

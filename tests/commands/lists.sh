@@ -105,7 +105,7 @@ beside() {
     [ "$(wc -l <"$room/some")" -ge 80 ]
     test_that $? "$1: only $(wc -l <"$room/some") of the second program's lines"
     while read -r name digits _; do
-        hex "${digits#-}" >"$room/file"
+        hex "$digits" >"$room/file"
         "$folder/files" "$1" "$room/file" >"$room/wanted" 2>"$room/number"
         unit console "$1" "$room/file" >"$room/wrote" 2>"$room/said" </dev/null
         status=$?

@@ -93,7 +93,7 @@ some_of page_read 150 50 "$room/lines" "$room/answers" | page_texts >"$room/some
 [ "$(wc -l <"$room/some")" -ge 200 ]
 test_that $? "list-page: only $(wc -l <"$room/some") of the second program's lines"
 while read -r name digits wanted; do
-    hex "${digits#-}" >"$room/page"
+    hex "$digits" >"$room/page"
     wrote=$(unit page_lister <"$room/page" 2>&1 | tr ' \n' '_,')
     [ "$wrote" = "$wanted" ]
     test_that $? "list-page, $name: wanted $wanted, got $wrote"
