@@ -122,22 +122,20 @@ x86() { ${run:+"$run"} "$@"; }
 library() { must "the static library was not built" rt staticlib spadeswirl; }
 
 # build NAME: a C program, into the folder. One of tests/c is over the static library, for x86-64; one of tests/second is on OpenSSL's
-# libcrypto, for this machine.
+# libcrypto, for this machine. A writer of lines runs for less time than more optimizing takes.
 build() {
-    local at
+    local at how=()
     for at in tests/c tests/second tests/second/lines; do
         [ ! -f "$at/$1.c" ] || break
     done
-    case $at in
-    tests/c)
+    if [ "$at" = tests/c ]; then
         # shellcheck disable=SC2086
         must "$at/$1.c was not built" $cc "${flags[@]}" -Iinclude -o "$folder/$1" "$at/$1.c" target/staticlib/libspadeswirl.a
-        ;;
-    *)
-        [ -e /usr/include/openssl/evp.h ] || must "libssl-dev was not installed" install_package libssl-dev
-        must "$at/$1.c was not built" gcc "${flags[@]}" -o "$folder/$1" "$at/$1.c" -lcrypto
-        ;;
-    esac
+        return
+    fi
+    [ "$at" = tests/second ] || how=(-Og)
+    [ -e /usr/include/openssl/evp.h ] || must "libssl-dev was not installed" install_package libssl-dev
+    must "$at/$1.c was not built" gcc "${flags[@]}" "${how[@]}" -o "$folder/$1" "$at/$1.c" -lcrypto
 }
 
 # programs FOLDER NAME ..: the library and these C programs, which are in FOLDER already; where that is empty all are built here.
