@@ -29,8 +29,11 @@ faultless() {
 
 # same NAME WANTED GOT: two files as one test.
 same() {
-    cmp -s "$2" "$3"
-    test_that $? "$1: $(diff "$2" "$3" 2>&1 | head -n 6 | cut -c 1-200)"
+    if cmp -s "$2" "$3"; then
+        test_that 0
+    else
+        test_that 1 "$1: $(diff "$2" "$3" 2>&1 | head -n 6 | cut -c 1-200)"
+    fi
 }
 
 # each NAME WANTED GOT: every line of two files is a test.
@@ -99,8 +102,8 @@ add() {
 
 # ---- Bytes
 
-# The bytes of hexadecimal digits, with or without spaces between; and so many zero bytes.
-hex() { printf '%b' "$(sed -E 's/ *([0-9A-Fa-f]{2})/\\x\1/g' <<<"$*")"; }
+# The bytes of hexadecimal digits, with or without spaces between, `-` being none; and so many zero bytes.
+hex() { printf '%b' "$(sed 's/[ -]//g; s/../\\x&/g' <<<"$*")"; }
 zeros() { head -c "$1" /dev/zero; }
 
 # ---- Programs
@@ -108,7 +111,8 @@ zeros() { head -c "$1" /dev/zero; }
 # shellcheck source=tests/machine.sh
 . tests/machine.sh || give_up "this machine lacks what the tests are built or run with"
 
-# How a C program is built; a warning is an error.
+# The kit's tools for this machine; and how a C program is built, a warning being an error.
+tools=$kit/on/$(uname -m)/toolchain
 flags=(-std=gnu99 -O2 -Wall -Wextra -Werror)
 
 # x86 PROGRAM WORD ..: runs a program for x86-64.
@@ -118,22 +122,20 @@ x86() { ${run:+"$run"} "$@"; }
 library() { must "the static library was not built" rt staticlib spadeswirl; }
 
 # build NAME: a C program, into the folder. One of tests/c is over the static library, for x86-64; one of tests/second is on OpenSSL's
-# libcrypto, for this machine.
+# libcrypto, for this machine. A writer of lines runs for less time than more optimizing takes.
 build() {
-    local at
+    local at how=()
     for at in tests/c tests/second tests/second/lines; do
         [ ! -f "$at/$1.c" ] || break
     done
-    case $at in
-    tests/c)
+    if [ "$at" = tests/c ]; then
         # shellcheck disable=SC2086
         must "$at/$1.c was not built" $cc "${flags[@]}" -Iinclude -o "$folder/$1" "$at/$1.c" target/staticlib/libspadeswirl.a
-        ;;
-    *)
-        [ -e /usr/include/openssl/evp.h ] || must "libssl-dev was not installed" install_package libssl-dev
-        must "$at/$1.c was not built" gcc "${flags[@]}" -o "$folder/$1" "$at/$1.c" -lcrypto
-        ;;
-    esac
+        return
+    fi
+    [ "$at" = tests/second ] || how=(-Og)
+    [ -e /usr/include/openssl/evp.h ] || must "libssl-dev was not installed" install_package libssl-dev
+    must "$at/$1.c was not built" gcc "${flags[@]}" "${how[@]}" -o "$folder/$1" "$at/$1.c" -lcrypto
 }
 
 # programs FOLDER NAME ..: the library and these C programs, which are in FOLDER already; where that is empty all are built here.
@@ -153,8 +155,7 @@ proved() {
     must "the program $1 was not proved and built" rt check "$1"
 }
 unit() {
-    local tools built=target/bin/$1
-    tools=$kit/on/$(uname -m)/toolchain
+    local built=target/bin/$1
     shift
     x86 "$tools/lib/ld-linux-x86-64.so.2" --library-path "$tools/lib" "$built" "$@"
 }

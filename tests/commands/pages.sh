@@ -1,5 +1,5 @@
 # shellcheck shell=bash disable=SC2034,SC2086,SC2154
-# Sourced by tests/console: list-page, beside document 01's own text, and on the pages of the second program's lines.
+# Sourced by tests/console: list-page, beside document 01's own text, and on pages of the second program's lines.
 
 # What is wanted for a page: the eight lines of its fields; or `refused N`, and what N means on standard error.
 fields() {
@@ -68,46 +68,33 @@ list "a KEY part of format 04h that fills the page" < <(hex 00 10 0F FC 00 00 00
 
 # ---- some 300 of the pages of the second program's lines, by the program alone: the text is that of the second program's answers
 
-# One page a line: its name, its bytes in hex, and the wanted text, with _ for a space and a comma after each line. Every number has its
-# pages, spread over all that gave it, the most for 0. A page over 4,096 bytes is `refused 4` with no other test.
-some_pages() { # LINES ANSWERS
+# Prints `NAME HEX TEXT`, with _ for a space and a comma after each line of the text. A page over 4,096 bytes is `refused 4` with no other test.
+page_texts() {
     awk '
         function decimal(hex,   n, i) {
             for (i = 1; i <= length(hex); i++) n = 16 * n + index("0123456789abcdef", substr(hex, i, 1)) - 1
             return n + 0
         }
-        function text(words,   said, i) {
+        function text(   said, i) {
             for (i = 1; i <= 14; i++)
-                if (names[i] != ".") said = said names[i] "_" decimal(words[2 + i]) ","
+                if (names[i] != ".") said = said names[i] "_" decimal($(3 + i)) ","
             return said
         }
         BEGIN { split("scope lock . . . . . . encrypt decrypt algorithm format key_length descriptors", names, " ") }
-        NR == FNR { if ($2 == "page_read") page[$1] = $3; next }
-        $1 in page && !seen[page[$1]]++ { of[$2]++; answer[$2, of[$2]] = $0 }
-        END {
-            for (number in of) {
-                most = number == 0 ? 150 : 50
-                step = of[number] > most ? of[number] / most : 1
-                for (k = 1; k <= of[number]; k += step) {
-                    split(answer[number, int(k)], words, " ")
-                    hex = page[words[1]]
-                    wanted = length(hex) > 2 * 4096 ? "refused_4," : number == 0 ? text(words) : "refused_" number ","
-                    print words[1], hex, wanted
-                }
-            }
-        }' "$1" "$2"
+        {
+            wanted = length($2) > 2 * 4096 ? "refused_4," : $3 == 0 ? text() : "refused_" $3 ","
+            print $1, $2, wanted
+        }'
 }
 
-"$folder/pages" "${SEED:-$(date +%s)}" >"$room/pages.lines" || give_up "tests/second/lines/pages.c did not write its lines"
-second_answers "$room/pages.lines" "$room/pages.answers"
-some_pages "$room/pages.lines" "$room/pages.answers" >"$room/some-pages"
-listed=0
+"$folder/pages" "$seed" >"$room/lines" || give_up "tests/second/lines/pages.c did not write its lines"
+second_answers "$room/lines" "$room/answers"
+some_of page_read 150 50 "$room/lines" "$room/answers" | page_texts >"$room/some"
+[ "$(wc -l <"$room/some")" -ge 200 ]
+test_that $? "list-page: only $(wc -l <"$room/some") of the second program's lines"
 while read -r name digits wanted; do
-    hex "${digits#-}" >"$room/page"
+    hex "$digits" >"$room/page"
     wrote=$(unit page_lister <"$room/page" 2>&1 | tr ' \n' '_,')
     [ "$wrote" = "$wanted" ]
     test_that $? "list-page, $name: wanted $wanted, got $wrote"
-    listed=$((listed + 1))
-done <"$room/some-pages"
-[ "$listed" -ge 200 ]
-test_that $? "only $listed pages of the second program's lines"
+done <"$room/some"
