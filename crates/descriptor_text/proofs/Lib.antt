@@ -1,0 +1,6 @@
+pub mod Lying
+pub mod Written
+pub mod Shown
+pub mod Room
+pub mod Texts
+pub mod Laws
