@@ -3,4 +3,6 @@ pub mod Written
 pub mod Shown
 pub mod Room
 pub mod Texts
+pub mod Counted
+pub mod ReadBack
 pub mod Laws

@@ -10,7 +10,7 @@ use Rattle.keypage.specs.Page.{listIn}
 use Rattle.keypage.specs.Read.{readNumber}
 use Rattle.descriptor_text.specs.Lines.{listText}
 
--- room for the longest text: that of 4,096 bytes of empty descriptors is a fifth shorter
+-- room for the text of any list of 4,096 bytes: no line is more than two and a half times as long as its descriptor
 abbrev pub describedRoom : ℕ
 describedRoom = 12288
 

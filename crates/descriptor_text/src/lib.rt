@@ -25,11 +25,14 @@ const ZERO_SIZE: usize = 2;
 
 const LABEL_STRICT: bool = false;
 
+// Room for the text of any list of 4,096 bytes.
+const ROOM: usize = 12288;
+
 // A text by value: the number that refuses it, or 0 with its size and its bytes with zeros after them.
 pub struct Described {
     pub number: u8,
     pub size: usize,
-    pub bytes: [u8; 12288],
+    pub bytes: [u8; ROOM],
 }
 
 // The text of a list that keeps to the layout.
@@ -46,7 +49,7 @@ fn put_list(list: &[u8], label: bool, strict: bool, out: &mut [u8]) -> usize
 pub fn describe_label(label: &[u8]) -> Described
     ensures { λ r. ⌜ labelDescribed (now (label .entry)) ≡ (r .number, r .size, r .bytes) ⌝ }
 {
-    let mut bytes = [0u8; 12288];
+    let mut bytes = [0u8; ROOM];
     let mut count = 0;
     let number = label_check(label, &mut count);
     if number != 0 {
@@ -73,7 +76,7 @@ pub fn describe_label(label: &[u8]) -> Described
 pub fn describe_page(page: &[u8]) -> Described
     ensures { λ r. ⌜ pageDescribed (now (page .entry)) ≡ (r .number, r .size, r .bytes) ⌝ }
 {
-    let mut bytes = [0u8; 12288];
+    let mut bytes = [0u8; ROOM];
     let number = keypage::reading::check(page);
     if number != 0 {
         return Described {

@@ -7,8 +7,12 @@ ghost use Rattle.wording.specs.Writing.{putAt};
 ghost use Rattle.descriptor_text.specs.Lines.{bytesShown, descriptorLine};
 ghost use Rattle.descriptor_text.specs.Shown.{WroteIfFits};
 
-// Type, zero byte and length.
-const HEAD_SIZE: usize = 4;
+// Where a descriptor's length stands, after its type and a zero byte, and where its bytes begin.
+const LENGTH_AT: usize = 2;
+
+const LENGTH_SIZE: usize = 2;
+
+const BYTES_AT: usize = 4;
 
 // The digits of a descriptor's bytes, or `-`.
 fn put_bytes(out: &mut [u8], at: usize, s: &[u8]) -> usize
@@ -26,8 +30,8 @@ pub(crate) fn put_descriptor(out: &mut [u8], at: usize, d: &[u8]) -> usize
 {
     let type_end = put_hex(out, at, part(d, 0, 1), true);
     let length_at = put_byte(out, type_end, b' ');
-    let length_end = put_hex(out, length_at, part(d, 2, 2), true);
+    let length_end = put_hex(out, length_at, part(d, LENGTH_AT, LENGTH_SIZE), true);
     let bytes_at = put_byte(out, length_end, b' ');
-    let bytes_end = put_bytes(out, bytes_at, part(d, HEAD_SIZE, d.len()));
+    let bytes_end = put_bytes(out, bytes_at, part(d, BYTES_AT, d.len()));
     put_byte(out, bytes_end, b'\n')
 }
