@@ -1,9 +1,8 @@
 // label LABEL
 use crate::rooms::long_room;
-use crate::saying::refuse;
-use crate::saying::write_count;
+use crate::saying::say_described;
 use crate::taking::take_file;
-use descriptors::label_check;
+use descriptor_text::describe_label;
 
 pub(crate) fn label() {
     let mut label = long_room();
@@ -12,11 +11,5 @@ pub(crate) fn label() {
         return;
     }
     let size = taken.size;
-    let mut count = 0;
-    let number = label_check(&label[..size], &mut count);
-    if number != 0 {
-        refuse(number);
-        return;
-    }
-    write_count(b"descriptors ", count);
+    say_described(describe_label(&label[..size]));
 }

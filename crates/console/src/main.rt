@@ -4,6 +4,7 @@
 mod labels;
 mod meanings;
 mod opening;
+mod pages;
 mod rooms;
 mod saying;
 mod sealing;
@@ -21,6 +22,8 @@ fn run(command: &[u8]) {
         tables::check_table();
     } else if equal(command, b"label") {
         labels::label();
+    } else if equal(command, b"descriptors") {
+        pages::descriptors();
     } else if equal(command, b"meaning") {
         meanings::meaning_of();
     } else {

@@ -1,8 +1,8 @@
 // open TABLE RECORD [ASSOCIATED]
 use crate::rooms::associated_room;
 use crate::rooms::long_room;
+use crate::rooms::plain_room;
 use crate::rooms::table_room;
-use crate::rooms::text_room;
 use crate::saying::refuse;
 use crate::saying::write_out;
 use crate::taking::take_file;
@@ -10,7 +10,7 @@ use crate::taking::take_optional;
 use octets::strings::part;
 
 fn open_bytes(table: &[u8], record: &[u8], associated: &[u8]) {
-    let mut plain = text_room();
+    let mut plain = plain_room();
     let mut count = 0;
     let number = record::opening::open(table, record, associated, &mut plain, &mut count);
     if number != 0 {

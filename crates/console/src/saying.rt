@@ -1,7 +1,13 @@
 // What is said on standard error, and what is written to standard output.
+use descriptor_text::Described;
 use libc::STDERR_FILENO;
 use libc::STDOUT_FILENO;
+use octets::strings::part;
 use wording::meaning::meaning;
+use wording::writing::put_line;
+
+// A word of `check-table`, a space, a number of 20 digits at most, and a newline.
+const LINE_ROOM: usize = 32;
 
 // A line that begins with no number.
 pub(crate) fn misuse(what: &[u8]) {
@@ -27,11 +33,21 @@ pub(crate) fn write_out(s: &[u8]) {
     }
 }
 
-// A word with the space after it, a number, and a newline.
+// The line of a word and a number.
 pub(crate) fn write_count(word: &[u8], n: u64) {
-    write_out(word);
-    if !io::print_decimal(STDOUT_FILENO, n) {
-        os::fail(b"cannot write");
+    let mut line = [0u8; LINE_ROOM];
+    let end = put_line(&mut line, 0, word, n);
+    write_out(part(&line, 0, end));
+}
+
+// The text of a descriptor list, or the number that refuses it.
+pub(crate) fn say_described(d: Described) {
+    let number = d.number;
+    let size = d.size;
+    let bytes = d.bytes;
+    if number != 0 {
+        refuse(number);
+        return;
     }
-    write_out(b"\n");
+    write_out(part(&bytes, 0, size));
 }

@@ -1,8 +1,8 @@
 // seal TABLE NAME IV DATA [ASSOCIATED]
 use crate::rooms::associated_room;
+use crate::rooms::plain_room;
 use crate::rooms::record_room;
 use crate::rooms::table_room;
-use crate::rooms::text_room;
 use crate::rooms::word_room;
 use crate::saying::refuse;
 use crate::saying::write_out;
@@ -23,7 +23,7 @@ fn seal_bytes(table: &[u8], name: &[u8], iv: &[u8], associated: &[u8], plain: &[
 }
 
 fn seal_named(table: &[u8], name: &[u8], iv: &[u8]) {
-    let mut plain = text_room();
+    let mut plain = plain_room();
     let p = take_file(5, &mut plain);
     if !p.whole {
         return;

@@ -16,5 +16,5 @@ pub(crate) fn check_table() {
         refuse(1);
         return;
     };
-    write_count(b"rows ", r as u64);
+    write_count(b"rows", r as u64);
 }

@@ -14,7 +14,7 @@ use Rattle.descriptors.specs.Parse.{Split}
 use Rattle.descriptors.specs.Tested.{listOk, unreserved, countOf}
 use Rattle.descriptors.specs.Steps.{cursorAtStart, advanceOf, partShown, cursorAfter}
 use Rattle.descriptors.specs.Readers.{standing, openedOf, shownSays, shownOf, nextOf}
-use Rattle.descriptors.specs.ReaderLaws.{ReaderRun, ReaderCounts, ReaderShows, ReaderThenNothing, ReaderRefusedStays, ReaderOpenUnique, ReaderNextUnique, PartAtUnique, ShownFromUnique}
+use Rattle.descriptors.specs.ReaderLaws.{ReaderRun, ReaderCounts, ReaderShows, ReaderThenNothing, ReaderRefusedStays, ReaderOpenUnique, ReaderNextUnique, PartAtUnique}
 use Rattle.descriptors.specs.declared.cursor.Cursor.{Cursor}
 use Rattle.descriptors.specs.declared.cursor.Advance.{Advance}
 use Rattle.descriptors.specs.declared.cursor.Begun.{Begun}
@@ -91,6 +91,3 @@ reader-next-unique d = unique (nextOf d)
 
 pub part-at-unique : PartAtUnique
 part-at-unique s from end = unique (partIn s from (end - from))
-
-pub shown-from-unique : ShownFromUnique
-shown-from-unique l c = unique (shownOf (standing l c) .1)

@@ -12,8 +12,7 @@ use Rattle.octets.specs.Unique.{Unique}
 use Rattle.descriptors.specs.Parse.{parse}
 use Rattle.descriptors.specs.Tested.{unreserved}
 use Rattle.descriptors.specs.Steps.{cursorAtStart, advanceOf, cursorAfter}
-use Rattle.descriptors.specs.Readers.{standing, openedOf, shownSays, shownOf, nextOf}
-use Rattle.descriptors.specs.declared.cursor.Cursor.{Cursor}
+use Rattle.descriptors.specs.Readers.{openedOf, shownSays, shownOf, nextOf}
 use Rattle.descriptors.specs.declared.reader.Reader.{Reader}
 use Rattle.descriptors.specs.declared.reader.Opened.{Opened}
 use Rattle.descriptors.specs.declared.reader.Shown.{Shown}
@@ -59,6 +58,3 @@ ReaderNextUnique = (d : Reader) → Unique (nextOf d)
 
 abbrev pub PartAtUnique : Type 0
 PartAtUnique = (s : Placed) (from end : ℕ) → Unique (partIn s from (end - from))
-
-abbrev pub ShownFromUnique : Type 0
-ShownFromUnique = (l : RefT (List ℕ)) (c : Cursor) → Unique (shownOf (standing l c) .1)

@@ -4,8 +4,7 @@ use crate::cursor::advance_at;
 use crate::cursor::begin;
 use crate::cursor::part_at;
 ghost use mathlib.Core.Path.{_≡_};
-ghost use Rattle.descriptors.specs.Readers.{standing, openedOf, shownSays, shownOf, nextOf};
-ghost use Rattle.octets.specs.Places.{placed};
+ghost use Rattle.descriptors.specs.Readers.{openedOf, shownSays, nextOf};
 
 pub struct Reader<'a> {
     pub list: &'a [u8],
@@ -51,13 +50,4 @@ pub fn next<'s, 'a>(r: &'s mut Reader<'a>) -> Shown<'a>
         number: a.number,
         part: part_at(list, a.from, a.end),
     }
-}
-
-// What a reader at a place shows, for a caller that holds no reader: the descriptor, or no bytes.
-pub fn shown_from<'a>(list: &'a [u8], place: Cursor) -> &'a [u8]
-    ensures { λ p. ⌜ placed p ≡ shownOf (standing (list .entry) place) .1 ⌝ }
-{
-    let mut r = Reader { list, place };
-    let p = next(&mut r);
-    p.part
 }

@@ -71,11 +71,14 @@ pub(crate) fn key_part(p: &[u8]) -> &[u8]
     part(p, KEY_AT, read16(p, KEY_LENGTH_AT))
 }
 
-fn list_in(p: &[u8]) -> &[u8]
+pub fn list_in(p: &[u8]) -> &[u8]
     ensures { λ r. ⌜ now r ≡ listIn (now (p .entry)) ⌝ }
 {
     part(p, KEY_AT + read16(p, KEY_LENGTH_AT), p.len())
 }
+
+// Whether the list is stepped along strictly: as it is tested.
+pub const LIST_STRICT: bool = PAGE_STRICT;
 
 // Whether the page's own bytes keep to the layout.
 fn page_ok(p: &[u8]) -> bool

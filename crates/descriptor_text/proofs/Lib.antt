@@ -1,0 +1,8 @@
+pub mod Lying
+pub mod Written
+pub mod Shown
+pub mod Room
+pub mod Texts
+pub mod Counted
+pub mod ReadBack
+pub mod Laws

@@ -1,0 +1,4 @@
+pub mod Lines
+pub mod Shown
+pub mod Described
+pub mod Laws
