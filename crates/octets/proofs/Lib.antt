@@ -11,3 +11,4 @@ pub mod Running
 pub mod Tests
 pub mod Arrays
 pub mod Places
+pub mod Walk
