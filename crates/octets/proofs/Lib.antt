@@ -12,3 +12,4 @@ pub mod Tests
 pub mod Arrays
 pub mod Places
 pub mod Written
+pub mod Walk
