@@ -13,7 +13,8 @@ use Rattle.octets.specs.Tests.{every}
 use Rattle.octets.proofs.Lent.{isNot-false, isNot-right}
 use Rattle.octets.proofs.Tests.{every-at}
 use Rattle.keytable.specs.Row.{nameMax, rowKeySize}
-use Rattle.keypage.specs.KeyPart.{plainFormat, referenceFormat, wrappedFormat, referenceMin, byFormat, kekType, identifierSize, identifierAt, wrappedTests, partBroken, partRefused, partLong, needsRow}
+use Rattle.keypage.specs.KeyPart.{plainFormat, referenceFormat, wrappedFormat, referenceMin, byFormat, needsRow}
+use Rattle.keypage.specs.KeyPart.{kekType, identifierSize, identifierAt, wrappedTests, partBroken, partRefused, partLong}
 use Rattle.keypage.specs.Laws.{PartLaid, plain, reference, wrapped}
 
 -- ---- what each format's value has, once the format is known

@@ -2,14 +2,15 @@
 -- Assumes nothing.
 use mathlib.Core.Path.{_≡_, refl, sym, ap, _∙_}
 use mathlib.Core.Bool.{Bool, true, false}
-use mathlib.Core.List.{List, [], _∷_, _++_}
+use mathlib.Core.List.{List, _∷_}
 use mathlib.Core.Option.{Option, some, none}
 use Prim.Native.Nat.{ℕ, _≤_}
 use borrow.Author.Tests.{ne-eqb, le-ltb}
 use lib.Dec.{eqb, ltb}
 use lib.ListN.{length}
-use Rattle.octets.specs.Lent.{when, Tests, lowest, over, kept, answer}
+use Rattle.octets.specs.Lent.{lowest, over, kept, answer}
 use Rattle.octets.proofs.Lent.{isNot-right}
+use Rattle.octets.proofs.Lowest.{lowest-refused}
 use Rattle.keytable.specs.Row.{rowKeySize, useOf, rowKey}
 use Rattle.keywrap.specs.Calls.{unwrapNumber, unwrapAnswer}
 use Rattle.keypage.specs.Page.{algorithmIn, formatIn, keyPart, fieldsOf}
@@ -54,16 +55,6 @@ module _ (row : Option (List ℕ)) (algorithm : ℕ) (s out : List ℕ) where
 
 -- ---- the load
 
--- where a test of the first list applies, the second changes nothing
-lowest-first : (ns ms : Tests) → (lowest ns ≡ 0 → ⊥) → lowest (ns ++ ms) ≡ lowest ns
-lowest-first [] ms h = absurd (h refl)
-lowest-first (n ∷ ns) ms h = go (n .1) h (λ q. lowest-first ns ms q)
-  where
-    go : (t : Bool) → (when t (n .0) (lowest ns) ≡ 0 → ⊥) → ((lowest ns ≡ 0 → ⊥) → lowest (ns ++ ms) ≡ lowest ns)
-        → when t (n .0) (lowest (ns ++ ms)) ≡ when t (n .0) (lowest ns)
-    go true q ih = refl
-    go false q ih = ih q
-
 -- for an accepted table, a page that reading accepts, and room, the KEY part's own tests are left
 pub load-number : (ok : Bool) (row : Option (List ℕ)) (p : List ℕ) (room : ℕ) → ok ≡ true → pageReadNumber p ≡ 0 → ltb room rowKeySize ≡ false
     → loadNumber ok row p room ≡ lowest (partTests row (algorithmIn p) (formatIn p) (keyPart p))
@@ -81,7 +72,7 @@ module _ (ok : Bool) (row : Option (List ℕ)) (p out fields : List ℕ) where
     unfolding loadNumber pageReadNumber
     unread-number n is refused =
         ap (λ (b : Bool). lowest (loadTests b row p (length out))) good
-        ∙ lowest-first (pageReadTests p) ((5, ltb (length out) rowKeySize) ∷ partTests row (algorithmIn p) (formatIn p) (keyPart p)) (λ z. refused (is ∙ z))
+        ∙ lowest-refused (pageReadTests p) ((5, ltb (length out) rowKeySize) ∷ partTests row (algorithmIn p) (formatIn p) (keyPart p)) refl (λ z. refused (is ∙ z))
         ∙ sym is
 
     pub load-unread : (n : ℕ) → n ≡ pageReadNumber p → (n ≡ 0 → ⊥) → loadRow ok row p out fields ≡ ((n, out), fields)

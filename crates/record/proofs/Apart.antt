@@ -45,7 +45,8 @@ unfolding authenticBy plaintextBy
 parts-opened key r a out good short key-right aad-short room =
     decrypt-in-range (modeFor r) key (ivIn r) (frontIn r) a (textIn r) (tagIn r) out
     (key-right ∙ sym (key-size (modeIn r))) (length-ivIn r good) (permits-textIn r good) (length-tagIn r good)
-    (omega (arith, length-frontIn r good, name-within (nameSize r) (countIn r) short)) (omega (arith, length-textIn r good, count-within (nameSize r) (countIn r) short)) (omega (arith, length-textIn r good))
+    (omega (arith, length-frontIn r good, name-within (nameSize r) (countIn r) short))
+    (omega (arith, length-textIn r good, count-within (nameSize r) (countIn r) short)) (omega (arith, length-textIn r good))
 
 -- the same, of parts cut by fields that were read, and by the mode's lengths
 pub fields-opened : (key r a out : List ℕ) (u k n v t : ℕ) → HeaderAccepted r u k n → v ≡ modeOf u .ivSize → t ≡ modeOf u .tagSize

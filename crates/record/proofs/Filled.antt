@@ -9,8 +9,7 @@ use Rattle.octets.specs.BigEndian.{be}
 use Rattle.octets.specs.Values.{bytesAt}
 use Rattle.octets.specs.Lent.{over}
 use Rattle.octets.specs.Tests.{partOf}
-use Rattle.octets.proofs.Lent.{length-over, over-front}
-use Rattle.record.proofs.After.{over-then}
+use Rattle.octets.proofs.Lent.{length-over, over-front, over-then}
 use Rattle.octets.proofs.Tests.{rest-all}
 use Rattle.keytable.specs.Row.{nameMax}
 use Rattle.modes.specs.Mode.{sealed}

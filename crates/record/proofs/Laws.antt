@@ -18,7 +18,8 @@ use Rattle.record.specs.Read.{headerSays, headerNumber, headerAnswer}
 use Rattle.record.specs.Seal.{sealAnswer}
 use Rattle.record.specs.Open.{plaintextBy, openNumber, openAnswer}
 use Rattle.record.specs.Demand3.{Refuses, OpensExactly, OnePlaintext, OneOpening, ElseRefuses, SealedOpens}
-use Rattle.record.specs.Laws.{HeaderThere, HeaderBack, SealOtherRows, OpenOtherRows, HeaderUnique, EndUnique, RecordCheckUnique, SealUnique, RecordOpenUnique, HeaderTestsRise, SealTestsRise, RecordTagTestsRise, OpenTestsRise}
+use Rattle.record.specs.Laws.{HeaderThere, HeaderBack, SealOtherRows, OpenOtherRows, HeaderUnique, EndUnique, RecordCheckUnique, SealUnique, RecordOpenUnique}
+use Rattle.record.specs.Laws.{HeaderTestsRise, SealTestsRise, RecordTagTestsRise, OpenTestsRise}
 use Rattle.record.specs.declared.header.Header.{Header}
 use Rattle.record.specs.declared.header.Header.the-variants.{Fields, BadForm, BadMode, TooLong}
 use Rattle.record.proofs.Written.{read-back, front-back}

@@ -9,7 +9,7 @@ use borrow.Author.Tests.{ltb-false, le-ltb}
 use lib.Dec.{ltb}
 use lib.ListN.{length}
 use Rattle.octets.proofs.Tests.{or-left, or-right}
-use Rattle.keytable.specs.Row.{nameMax}
+use Rattle.keytable.specs.Row.{nameMax, rowKeySize}
 use Rattle.modes.specs.Calls.{textMax}
 use Rattle.modes.specs.Modes.{modeOf}
 use Rattle.modes.proofs.Named.{each-mode}
@@ -24,8 +24,8 @@ iv-small = each-mode (λ m. m .ivSize ≤ 64) (omega arith) (omega arith)
 pub tag-small : (u : ℕ) → modeOf u .tagSize ≤ 64
 tag-small = each-mode (λ m. m .tagSize ≤ 64) (omega arith) (omega arith)
 
-pub key-size : (u : ℕ) → modeOf u .keySize ≡ 32
-key-size = each-mode (λ m. m .keySize ≡ 32) refl refl
+pub key-size : (u : ℕ) → modeOf u .keySize ≡ rowKeySize
+key-size = each-mode (λ m. m .keySize ≡ rowKeySize) refl refl
 
 -- ---- the maxima of a name's length, a plaintext's count and the caller's data: the test that sealing and opening have for 4
 

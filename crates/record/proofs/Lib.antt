@@ -1,4 +1,3 @@
-pub mod After
 pub mod Lengths
 pub mod SealNumbers
 pub mod OpenNumbers

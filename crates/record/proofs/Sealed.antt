@@ -11,7 +11,7 @@ use lib.Dec.{eqb}
 use lib.ListN.{length, take, drop, replicate, length-replicate, length-append}
 use Rattle.octets.specs.Bytes.{Bytes}
 use Rattle.octets.specs.Lent.{isNot, over}
-use Rattle.octets.proofs.Lent.{testAt, none-applies, answer-done, isNot-false, isNot-right, over-whole}
+use Rattle.octets.proofs.Lent.{testAt, none-applies, answer-done, isNot-false, isNot-right, over-whole, over-append}
 use Rattle.octets.specs.Tests.{partOf}
 use Rattle.octets.proofs.Tests.{or-left, or-right, part-at}
 use Rattle.octets.proofs.Bytes.{bytes-take, bytes-drop}
@@ -29,7 +29,6 @@ use Rattle.record.specs.Demand3.{Seals}
 use Rattle.record.specs.Laws.{SealInRange, SealsInRange, SealsOnlyInRange}
 use Rattle.record.proofs.Lengths.{key-size, within-maxima, maxima-kept}
 use Rattle.record.proofs.Written.{length-front}
-use Rattle.record.proofs.After.{over-append}
 use Rattle.record.proofs.Laid.{laid, Laid, length-laid, laid-out}
 
 -- ---- the tests

@@ -27,9 +27,8 @@ use Rattle.record.specs.Seal.{recordOf, sealedSize, sealNumber, sealRow}
 use Rattle.record.specs.Next.{sealedSays, sealNextNumber, sealNextRow, sealNextAnswer}
 use Rattle.record.specs.Laws.{NextOtherRows, NextLive, NextSpent, NextSeals, NextAdvances, NextRefused, Lent, sealBefore, sealCall, written, RecordsDiffer}
 use Rattle.record.specs.Laws.{SealByUnique, SealNextUnique, SealNextTestsRise}
-use Rattle.octets.proofs.Lent.{answer-done}
+use Rattle.octets.proofs.Lent.{answer-done, over-append}
 use Rattle.record.proofs.Written.{length-front, read-back}
-use Rattle.record.proofs.After.{over-append}
 use Rattle.record.proofs.Sealed.{in-range, seals-in-range}
 use Rattle.record.proofs.WithSession.{next-zero, next-live, next-spent, next-done}
 

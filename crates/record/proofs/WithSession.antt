@@ -10,6 +10,7 @@ use borrow.Author.Tests.{eqb-true, eqb-false, ne-eqb, not-true}
 use lib.Dec.{eqb}
 use lib.ListN.{length, length-replicate}
 use Rattle.octets.specs.Lent.{when, lowest, over}
+use Rattle.octets.proofs.Lowest.{lowest-then}
 use Rattle.session.specs.Iv.{prefixSize, sessionIvSize, isSpent, ivOf, nextSession}
 use Rattle.session.specs.Calls.{SessionAnswer, advanceAnswer}
 use Rattle.session.specs.declared.Session.{Session}
@@ -17,7 +18,6 @@ use Rattle.session.proofs.Calls.{advance-spent, advance-done, advance-live}
 use Rattle.session.proofs.Laws.{length-iv}
 use Rattle.record.specs.Seal.{recordBy, sealTests, sealNumber, readyBy}
 use Rattle.record.specs.Next.{sealNextNumber, sealNextRow}
-use Rattle.record.proofs.After.{lowest-then}
 use Rattle.record.proofs.SealReady.{ready-refused, ready-number}
 
 -- ---- over the definition
