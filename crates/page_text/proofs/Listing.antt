@@ -10,11 +10,11 @@ use Rattle.wording.specs.Decimal.{decimal}
 use Rattle.wording.proofs.Decimal.{length-decimal64}
 use Rattle.keypage.specs.Page.{pageMax, fieldsOf}
 use Rattle.keypage.specs.Read.{readNumber, readAnswer}
-use Rattle.page_text.specs.Listing.{linesIn, fieldLines, refused, listingNumber, listing, listingMax}
+use Rattle.page_text.specs.Listing.{linesIn, fieldLines, refusedLine, listingNumber, listing, listingMax}
 
 -- ---- which text
 
-pub listing-long : (p : List ℕ) → pageMax < length p → listing p ≡ refused 4
+pub listing-long : (p : List ℕ) → pageMax < length p → listing p ≡ refusedLine 4
 unfolding listing listingNumber
 listing-long p long = rw (lt-ltb pageMax (length p) long)
 
@@ -28,7 +28,7 @@ module _ (p before : List ℕ) (short : length p ≤ pageMax) {after : List ℕ}
   unfolding listingNumber
   list-number = rw (le-ltb pageMax (length p) short) number
 
-  pub listing-refused : (n ≡ 0 → ⊥) → listing p ≡ refused n
+  pub listing-refused : (n ≡ 0 → ⊥) → listing p ≡ refusedLine n
   unfolding listing
   listing-refused none = rw (list-number, ne-eqb n 0 none)
 
@@ -42,7 +42,7 @@ module _ (p before : List ℕ) (short : length p ≤ pageMax) {after : List ℕ}
 
 -- ---- a number of 64 bits has at most 20 digits
 
-pub refused-fits : (n : ℕ) → n < 2 ^ 64 → length (refused n) ≤ listingMax
+pub refused-fits : (n : ℕ) → n < 2 ^ 64 → length (refusedLine n) ≤ listingMax
 refused-fits n h = simp length-append (omega (arith, length-decimal64 n h))
 
 pub lines-fit : (f : List ℕ) → ((k : ℕ) → getD f k 0 < 2 ^ 64) → length (linesIn f) ≤ listingMax

@@ -31,15 +31,15 @@ fieldLines p =
 abbrev pub linesIn : List ℕ → List ℕ
 linesIn f = linesOf (getD f 0 0) (getD f 1 0) (getD f 8 0) (getD f 9 0) (getD f 10 0) (getD f 11 0) (getD f 12 0) (getD f 13 0)
 
-abbrev pub refused : ℕ → List ℕ
-refused n = line (ascii "refused") n
+abbrev pub refusedLine : ℕ → List ℕ
+refusedLine n = line (ascii "refused") n
 
 -- "Its tests are 2, 3 and 4." "One over 4,096 bytes prints `refused 4` with no other test."
 unfoldable pub listingNumber : List ℕ → ℕ
 listingNumber p = when (ltb pageMax (length p)) 4 (readNumber p)
 
 unfoldable pub listing : List ℕ → List ℕ
-listing p = when (eqb (listingNumber p) 0) (fieldLines p) (refused (listingNumber p))
+listing p = when (eqb (listingNumber p) 0) (fieldLines p) (refusedLine (listingNumber p))
 
 -- the text by value: how long it is, and the text with zeros after it
 abbrev pub listingMax : ℕ

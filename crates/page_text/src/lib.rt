@@ -11,6 +11,9 @@ const PAGE_MAX: usize = 4096;
 
 const TOO_LONG: u64 = 4;
 
+// How many fields a page has, as it is read.
+const FIELD_COUNT: usize = 14;
+
 const LISTING_MAX: usize = 256;
 
 // A text by value: its size, and its bytes with zeros after them.
@@ -20,7 +23,7 @@ pub struct Text {
 }
 
 // The eight lines, of the fields in the order in which a page is read.
-fn put_fields(out: &mut [u8], fields: [u64; 14]) -> usize
+fn put_fields(out: &mut [u8], fields: [u64; FIELD_COUNT]) -> usize
     requires { ⌜ listingMax ≤ length (now out) ⌝ }
     ensures { λ r. ⌜ Wrote 0 (linesIn fields) (now (out .entry)) (now (out .exit)) r ⌝ }
 {
@@ -42,7 +45,7 @@ fn put_listing(input: &[u8], out: &mut [u8]) -> usize
     if PAGE_MAX < input.len() {
         return put_line(out, 0, b"refused", TOO_LONG);
     }
-    let mut fields = [0u64; 14];
+    let mut fields = [0u64; FIELD_COUNT];
     let number = keypage::reading::read(input, &mut fields);
     if number != 0 {
         return put_line(out, 0, b"refused", number as u64);

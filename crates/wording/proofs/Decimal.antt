@@ -2,13 +2,14 @@
 -- Assumes nothing.
 use mathlib.Core.Path.{_≡_, refl, sym, ap, _∙_}
 use mathlib.Core.Bool.{Bool, true, false}
-use mathlib.Core.List.{List, [], _∷_, _++_, append-assoc}
+use mathlib.Core.List.{List, [], _∷_, _++_, append-assoc, append-nil}
 use Prim.Native.Nat.{ℕ, zero, suc, _+_, _-_, _*_, _/_, _%_, _^_, _≤_, _<_}
+use Prim.Native.Char.{code}
 use native.Mathlib.Nat.{pow-suc, div-lt-iff-lt-mul, lt-of-lt-of-le}
 use native.Mathlib.Omega.{arith}
 use lib.Dec.{ltb, lit<, lit≤}
-use lib.ListN.{length, getD, set, take, drop, length-append, length-drop, List·getD-append}
-use lib.Seq.{length-take-le, set-split, drop-at}
+use lib.ListN.{length, getD, set, take, drop, replicate, length-append, length-drop, length-set, List·getD-append}
+use lib.Seq.{take-all, length-take-le, set-split, drop-at}
 use borrow.Author.Tests.{ltb-true, ltb-false, lt-ltb, le-ltb, le-leb}
 use Rattle.octets.specs.Tests.{all}
 use Rattle.octets.proofs.Tests.{and-left, and-right}
@@ -25,57 +26,63 @@ within-more : (k n : ℕ) → 10 ≤ n → digitsWithin (suc k) n ≡ digitsWith
 unfolding digitsWithin
 within-more k n h = rw (le-ltb n 10 h)
 
-within-enough : (k j n : ℕ) → n ≤ k → n ≤ j → digitsWithin k n ≡ digitsWithin j n
-within-enough zero j n hk hj = within-small zero n (omega arith) ∙ sym (within-small j n (omega arith))
-within-enough (suc k) zero n hk hj = within-small (suc k) n (omega arith) ∙ sym (within-small zero n (omega arith))
-within-enough (suc k) (suc j) n hk hj = go (ltb n 10) refl (within-enough k j (n / 10) (omega arith) (omega arith))
+-- what holds of one digit, and of a string with a digit more where it holds of the string, holds of the digits of each number
+module _ (P : ℕ → List ℕ → Type 0) (small : (n : ℕ) → n < 10 → P n (decimalDigit n ∷ []))
+    (more : (n : ℕ) (s : List ℕ) → 10 ≤ n → P (n / 10) s → P n (s ++ decimalDigit (n % 10) ∷ [])) where
+  within-by : (k n : ℕ) → n ≤ k → P n (digitsWithin k n)
+  within-by zero n h = rw (within-small zero n (omega arith)) (small n (omega arith))
+  within-by (suc k) n h = go (ltb n 10) refl (within-by k (n / 10) (omega arith))
+    where
+      go : (t : Bool) → ltb n 10 ≡ t → P (n / 10) (digitsWithin k (n / 10)) → P n (digitsWithin (suc k) n)
+      go true e before = rw (within-small (suc k) n (ltb-true n 10 e)) (small n (ltb-true n 10 e))
+      go false e before = rw (within-more k n (ltb-false n 10 e)) (more n (digitsWithin k (n / 10)) (ltb-false n 10 e) before)
+
+  pub decimal-by : (n : ℕ) → P n (decimal n)
+  unfolding decimal
+  decimal-by n = within-by n n (omega arith)
+
+-- ---- the last digit, and those before it
+
+decimal-within : (n j : ℕ) → n ≤ j → decimal n ≡ digitsWithin j n
+decimal-within = decimal-by (λ n s. (j : ℕ) → n ≤ j → s ≡ digitsWithin j n) (λ n h j e. sym (within-small j n h)) more
   where
-    go : (t : Bool) → ltb n 10 ≡ t → digitsWithin k (n / 10) ≡ digitsWithin j (n / 10) → digitsWithin (suc k) n ≡ digitsWithin (suc j) n
-    go true e same = within-small (suc k) n (ltb-true n 10 e) ∙ sym (within-small (suc j) n (ltb-true n 10 e))
-    go false e same =
-        within-more k n (ltb-false n 10 e)
-        ∙ ap (λ (s : List ℕ). s ++ decimalDigit (n % 10) ∷ []) same
-        ∙ sym (within-more j n (ltb-false n 10 e))
+    more : (n : ℕ) (s : List ℕ) → 10 ≤ n → ((j : ℕ) → n / 10 ≤ j → s ≡ digitsWithin j (n / 10))
+        → (j : ℕ) → n ≤ j → s ++ decimalDigit (n % 10) ∷ [] ≡ digitsWithin j n
+    more n s h same zero e = absurd (omega arith)
+    more n s h same (suc j) e = ap (λ (l : List ℕ). l ++ decimalDigit (n % 10) ∷ []) (same j (omega arith)) ∙ sym (within-more j n h)
 
--- ---- the digits of a number
-
-pub decimal-small : (n : ℕ) → n < 10 → decimal n ≡ decimalDigit n ∷ []
+decimal-small : (n : ℕ) → n < 10 → decimal n ≡ decimalDigit n ∷ []
 unfolding decimal
 decimal-small n h = within-small n n h
 
-pub decimal-more : (n : ℕ) → 10 ≤ n → decimal n ≡ decimal (n / 10) ++ decimalDigit (n % 10) ∷ []
-unfolding decimal
+decimal-more : (n : ℕ) → 10 ≤ n → decimal n ≡ decimal (n / 10) ++ decimalDigit (n % 10) ∷ []
 decimal-more n h =
-    within-enough n (suc n) n (omega arith) (omega arith)
+    decimal-within n (suc n) (omega arith)
     ∙ within-more n n h
-    ∙ ap (λ (s : List ℕ). s ++ decimalDigit (n % 10) ∷ []) (within-enough n (n / 10) (n / 10) (omega arith) (omega arith))
+    ∙ ap (λ (s : List ℕ). s ++ decimalDigit (n % 10) ∷ []) (sym (decimal-within (n / 10) n (omega arith)))
 
--- below 10 ^ (k + 1) there are at most k + 1
-length-decimal : (k n : ℕ) → n < 10 ^ suc k → length (decimal n) ≤ suc k
-length-decimal zero n h = rw (decimal-small n h) (lit≤ tt)
-length-decimal (suc k) n h = go (ltb n 10) refl (length-decimal k (n / 10) (div-lt-iff-lt-mul (lit< tt) .1 (rw pow-suc at h)))
+-- ---- how many there are: at most k + 1 below 10 ^ (k + 1)
+
+length-decimal : (n k : ℕ) → n < 10 ^ suc k → length (decimal n) ≤ suc k
+length-decimal = decimal-by (λ n s. (k : ℕ) → n < 10 ^ suc k → length s ≤ suc k) (λ n h k e. omega arith) more
   where
-    go : (t : Bool) → ltb n 10 ≡ t → length (decimal (n / 10)) ≤ suc k → length (decimal n) ≤ suc (suc k)
-    go true e shorter = rw (decimal-small n (ltb-true n 10 e)) (omega arith)
-    go false e shorter = rw (decimal-more n (ltb-false n 10 e)) (simp length-append (omega arith))
+    more : (n : ℕ) (s : List ℕ) → 10 ≤ n → ((k : ℕ) → n / 10 < 10 ^ suc k → length s ≤ suc k)
+        → (k : ℕ) → n < 10 ^ suc k → length (s ++ decimalDigit (n % 10) ∷ []) ≤ suc k
+    more n s h shorter zero e = absurd (omega arith)
+    more n s h shorter (suc k) e =
+        simp length-append (omega (arith, shorter k (div-lt-iff-lt-mul (lit< tt) .1 (rw pow-suc at e))))
 
 pub length-decimal64 : (n : ℕ) → n < 2 ^ 64 → length (decimal n) ≤ 20
-length-decimal64 n h = length-decimal 19 n (lt-of-lt-of-le h (lit≤ tt))
+length-decimal64 n h = length-decimal n 19 (lt-of-lt-of-le h (lit≤ tt))
 
 -- ---- the number that digits are read as
 
-value-last : (v : ℕ) (s : List ℕ) (d : ℕ) → valueAfter v (s ++ d ∷ []) ≡ valueAfter v s * 10 + (d - 48)
+value-last : (v : ℕ) (s : List ℕ) (d : ℕ) → valueAfter v (s ++ d ∷ []) ≡ valueAfter v s * 10 + (d - code "0")
 value-last v [] d = refl
-value-last v (x ∷ s) d = value-last (v * 10 + (x - 48)) s d
+value-last v (x ∷ s) d = value-last (v * 10 + (x - code "0")) s d
 
-pub within-reads : (k n : ℕ) → n ≤ k → valueOf (digitsWithin k n) ≡ n
-within-reads zero n h = rw (within-small zero n (omega arith)) (omega arith)
-within-reads (suc k) n h = go (ltb n 10) refl (within-reads k (n / 10) (omega arith))
-  where
-    go : (t : Bool) → ltb n 10 ≡ t → valueOf (digitsWithin k (n / 10)) ≡ n / 10 → valueOf (digitsWithin (suc k) n) ≡ n
-    go true e front = rw (within-small (suc k) n (ltb-true n 10 e)) (omega arith)
-    go false e front =
-        rw (within-more k n (ltb-false n 10 e), value-last 0 (digitsWithin k (n / 10)) (decimalDigit (n % 10)), front) (omega arith)
+pub decimal-value : (n : ℕ) → valueOf (decimal n) ≡ n
+decimal-value = decimal-by (λ n s. valueOf s ≡ n) (λ n h. omega arith) (λ n s h e. rw (value-last 0 s (decimalDigit (n % 10)), e) (omega arith))
 
 -- ---- each is a digit, and the first is a zero for 0 alone
 
@@ -85,69 +92,61 @@ all-last p [] d e f = rw f
 all-last p (x ∷ s) d e f = rw (and-left (p x) (all p s) e) (all-last p s d (and-right (p x) (all p s) e) f)
 
 digit-is : (d : ℕ) → d < 10 → isDecimalDigit (decimalDigit d) ≡ true
-digit-is d h = rw (le-leb 48 (48 + d) (omega arith), le-leb (48 + d) 57 (omega arith))
+digit-is d h = rw (le-leb (code "0") (decimalDigit d) (omega arith), le-leb (decimalDigit d) (code "9") (omega arith))
 
-pub within-digits : (k n : ℕ) → n ≤ k → all isDecimalDigit (digitsWithin k n) ≡ true
+pub decimal-are : (n : ℕ) → all isDecimalDigit (decimal n) ≡ true
 unfolding all
-within-digits zero n h = rw (within-small zero n (omega arith)) (all-last isDecimalDigit [] (decimalDigit n) refl (digit-is n (omega arith)))
-within-digits (suc k) n h = go (ltb n 10) refl (within-digits k (n / 10) (omega arith))
-  where
-    go : (t : Bool) → ltb n 10 ≡ t → all isDecimalDigit (digitsWithin k (n / 10)) ≡ true → all isDecimalDigit (digitsWithin (suc k) n) ≡ true
-    go true e front = rw (within-small (suc k) n (ltb-true n 10 e)) (all-last isDecimalDigit [] (decimalDigit n) refl (digit-is n (ltb-true n 10 e)))
-    go false e front =
-        rw (within-more k n (ltb-false n 10 e))
-        (all-last isDecimalDigit (digitsWithin k (n / 10)) (decimalDigit (n % 10)) front (digit-is (n % 10) (omega arith)))
+decimal-are =
+    decimal-by
+    (λ n s. all isDecimalDigit s ≡ true)
+    (λ n h. all-last isDecimalDigit [] (decimalDigit n) refl (digit-is n h))
+    (λ n s h e. all-last isDecimalDigit s (decimalDigit (n % 10)) e (digit-is (n % 10) (omega arith)))
 
-within-some : (k n : ℕ) → n ≤ k → 0 < length (digitsWithin k n)
-within-some zero n h = rw (within-small zero n (omega arith)) (lit< tt)
-within-some (suc k) n h = go (ltb n 10) refl
-  where
-    go : (t : Bool) → ltb n 10 ≡ t → 0 < length (digitsWithin (suc k) n)
-    go true e = rw (within-small (suc k) n (ltb-true n 10 e)) (lit< tt)
-    go false e = rw (within-more k n (ltb-false n 10 e)) (simp length-append (omega arith))
+pub decimal-first : (n : ℕ) → (0 < length (decimal n)) × (getD (decimal n) 0 0 ≡ decimalDigit 0 → n ≡ 0)
+decimal-first =
+    decimal-by (λ n s. (0 < length s) × (getD s 0 0 ≡ decimalDigit 0 → n ≡ 0)) (λ n h. (lit< tt, λ e. omega arith)) (λ n s h f. (
+      simp length-append (omega arith),
+      λ e. let none : n / 10 ≡ 0 = f .1 (sym (List·getD-append s (decimalDigit (n % 10) ∷ []) 0 0 (f .0)) ∙ e) in omega arith,
+    ))
 
-pub within-first : (k n : ℕ) → n ≤ k → getD (digitsWithin k n) 0 0 ≡ decimalDigit 0 → n ≡ 0
-within-first zero n h e = omega arith
-within-first (suc k) n h e = go (ltb n 10) refl (within-first k (n / 10) (omega arith))
-  where
-    go : (t : Bool) → ltb n 10 ≡ t → (getD (digitsWithin k (n / 10)) 0 0 ≡ decimalDigit 0 → n / 10 ≡ 0) → n ≡ 0
-    go true t front =
-        let first : 48 + n ≡ 48 = rw (within-small (suc k) n (ltb-true n 10 t)) at e in
-        omega arith
-    go false t front =
-        let first : n / 10 ≡ 0 =
-        front
-        (sym (List·getD-append (digitsWithin k (n / 10)) (decimalDigit (n % 10) ∷ []) 0 0 (within-some k (n / 10) (omega arith)))
-        ∙ (rw (within-more k n (ltb-false n 10 t)) at e)) in
-        let large : 10 ≤ n = ltb-false n 10 t in
-        omega arith
+-- ---- found from the last to the first: the digits of n are those of what is left, and those that stand from a place on
 
--- ---- the loop that finds them from the last to the first: those of n are those of what is left, and what is written from a place on
+pub record Found (n rest first : ℕ) (digits : List ℕ) : Type 0 where
+  pub size : length digits ≡ 20
+  pub within : first ≤ 20
+  pub are : decimal n ≡ decimal rest ++ drop first digits
 
-pub decimal-some : (n : ℕ) → 0 < length (decimal n)
-unfolding decimal
-decimal-some n = within-some n n (omega arith)
+pub found-none : (n : ℕ) → Found n n 20 (replicate 20 0)
+found-none n = record { size = refl; within = lit≤ tt; are = sym (append-nil (decimal n)) }
 
-module _ (n rest first : ℕ) (digits : List ℕ) (small : n < 2 ^ 64) (size : length digits ≡ 20) (within : first ≤ 20)
-    (found : decimal n ≡ decimal rest ++ drop first digits) where
-  pub place-left : 0 < first
-  place-left =
-      omega (arith, length-decimal64 n small, decimal-some rest, ap length found ∙ length-append (decimal rest) (drop first digits), length-drop first digits)
+module _ {n rest first : ℕ} {digits : List ℕ} (small : n < 2 ^ 64) (f : Found n rest first digits) where
+  -- 20 digits are enough, so that a place is left
+  pub found-left : 0 < first
+  found-left =
+      omega (arith, length-decimal64 n small, decimal-first rest .0, ap length (f .are) ∙ length-append (decimal rest) (drop first digits), length-drop first digits)
 
   one-more : (v : ℕ) → drop (first - 1) (set digits (first - 1) v) ≡ v ∷ drop first digits
   one-more v =
-      let next : suc (first - 1) ≡ first = omega (arith, place-left) in
+      let next : suc (first - 1) ≡ first = omega (arith, found-left) in
       let before : length (take (first - 1) digits) ≡ first - 1 = length-take-le (first - 1) digits (omega arith) in
-      ap (drop (first - 1)) (set-split digits (first - 1) v (omega (arith, place-left)))
+      ap (drop (first - 1)) (set-split digits (first - 1) v (omega (arith, found-left)))
       ∙ drop-at (take (first - 1) digits) (v ∷ drop (suc (first - 1)) digits) (first - 1) before
       ∙ ap (λ (k : ℕ). v ∷ drop k digits) next
 
-  pub decimal-turn : 10 ≤ rest → decimal n ≡ decimal (rest / 10) ++ drop (first - 1) (set digits (first - 1) (decimalDigit (rest % 10)))
-  decimal-turn h =
-      found
-      ∙ ap (λ (s : List ℕ). s ++ drop first digits) (decimal-more rest h)
-      ∙ append-assoc (decimal (rest / 10)) (decimalDigit (rest % 10) ∷ []) (drop first digits)
-      ∙ ap (λ (s : List ℕ). decimal (rest / 10) ++ s) (sym (one-more (decimalDigit (rest % 10))))
+  pub found-turn : 10 ≤ rest → Found n (rest / 10) (first - 1) (set digits (first - 1) (decimalDigit (rest % 10)))
+  found-turn h = record {
+    size = simp length-set (f .size);
+    within = omega arith;
+    are =
+        f .are
+        ∙ ap (λ (s : List ℕ). s ++ drop first digits) (decimal-more rest h)
+        ∙ append-assoc (decimal (rest / 10)) (decimalDigit (rest % 10) ∷ []) (drop first digits)
+        ∙ ap (λ (s : List ℕ). decimal (rest / 10) ++ s) (sym (one-more (decimalDigit (rest % 10))));
+  }
 
-  pub decimal-end : rest < 10 → drop (first - 1) (set digits (first - 1) (decimalDigit rest)) ≡ decimal n
-  decimal-end h = one-more (decimalDigit rest) ∙ sym (found ∙ ap (λ (s : List ℕ). s ++ drop first digits) (decimal-small rest h))
+  -- the last of them, and the string from its place on
+  pub found-end : rest < 10 → take (20 - (first - 1)) (drop (first - 1) (set digits (first - 1) (decimalDigit rest))) ≡ decimal n
+  found-end h =
+      take-all (20 - (first - 1)) (drop (first - 1) (set digits (first - 1) (decimalDigit rest))) (simp (length-drop, length-set) (omega arith))
+      ∙ one-more (decimalDigit rest)
+      ∙ sym (f .are ∙ ap (λ (s : List ℕ). s ++ drop first digits) (decimal-small rest h))

@@ -8,13 +8,12 @@ use Prim.Native.Char.{code}
 use native.Mathlib.Numerals.{add-one}
 use native.Mathlib.Omega.{arith}
 use lib.Dec.{eqb, leb, ltb}
-use lib.ListN.{length, getD, set, take, drop, length-append}
-use lib.Seq.{take-suc, drop-cons, take-all, set-at, append-snoc, length-take-le}
+use lib.ListN.{length, getD, take}
+use lib.Seq.{take-suc}
 use borrow.Author.Tests.{eqb-true, leb-true, ltb-true, ltb-false, lt-ltb, le-ltb, le-leb, lt-leb}
 use Rattle.octets.specs.Lent.{when, over}
 use Rattle.octets.specs.Tests.{all}
 use Rattle.octets.proofs.Tests.{and-left, and-right}
-use Rattle.octets.proofs.Lent.{over-fits}
 use Rattle.wording.specs.Decimal.{between, isDecimalDigit, decimalDigit}
 use Rattle.wording.specs.Hex.{isSmallDigit, isCapitalDigit, isHexDigit, digitValue, digitOf, isHex, hexByte, hexBytes, digitsOf, hexRead}
 
@@ -27,20 +26,27 @@ module _ (low high c : ℕ) (h : between low high c ≡ true) where
   pub between-high : c ≤ high
   between-high = leb-true c high (and-right (leb low c) (leb c high) h)
 
+  bounds : (low ≤ c) × (c ≤ high)
+  bounds = (between-low, between-high)
+
+-- what each kind of digit counts, from its first on
+abbrev pub Counted : ℕ → ℕ → ℕ → ℕ → Type 0
+Counted low high c v = ((low ≤ c) × (c ≤ high)) × (v ≡ digitValue c)
+
 module _ (c : ℕ) where
-  pub value-decimal : isDecimalDigit c ≡ true → digitValue c ≡ c - code "0"
+  pub value-decimal : isDecimalDigit c ≡ true → Counted (code "0") (code "9") c (c - code "0")
   unfolding digitValue
-  value-decimal h = rw h
+  value-decimal h = (bounds (code "0") (code "9") c h, rw h)
 
-  pub value-small : isDecimalDigit c ≡ false → isSmallDigit c ≡ true → digitValue c ≡ c - code "a" + 10
+  pub value-small : isDecimalDigit c ≡ false → isSmallDigit c ≡ true → Counted (code "a") (code "f") c (c - code "a" + 10)
   unfolding digitValue
-  value-small h₁ h₂ = rw (h₁, h₂)
+  value-small h₁ h₂ = (bounds (code "a") (code "f") c h₂, rw (h₁, h₂))
 
-  pub value-capital : isDecimalDigit c ≡ false → isSmallDigit c ≡ false → isCapitalDigit c ≡ true → digitValue c ≡ c - code "A" + 10
+  pub value-capital : isDecimalDigit c ≡ false → isSmallDigit c ≡ false → isCapitalDigit c ≡ true → Counted (code "A") (code "F") c (c - code "A" + 10)
   unfolding digitValue
-  value-capital h₁ h₂ h₃ = rw (h₁, h₂, h₃)
+  value-capital h₁ h₂ h₃ = (bounds (code "A") (code "F") c h₃, rw (h₁, h₂, h₃))
 
-  pub value-none : isDecimalDigit c ≡ false → isSmallDigit c ≡ false → isCapitalDigit c ≡ false → digitValue c ≡ 0
+  pub value-none : isDecimalDigit c ≡ false → isSmallDigit c ≡ false → isCapitalDigit c ≡ false → 0 ≡ digitValue c
   unfolding digitValue
   value-none h₁ h₂ h₃ = rw (h₁, h₂, h₃)
 
@@ -71,7 +77,7 @@ module _ (d : ℕ) (below : d < 16) where
   unfolding isHexDigit
   counts-low h =
       let range = between-right (code "0") (code "9") (decimalDigit d) (omega arith) (omega arith) in
-      (rw range, value-decimal (decimalDigit d) range ∙ omega arith)
+      (rw range, sym (value-decimal (decimalDigit d) range .1) ∙ omega arith)
 
   counts-high : (capital : Bool) → 10 ≤ d → Counts (when capital (code "A") (code "a") + (d - 10)) d
   unfolding isHexDigit
@@ -80,12 +86,12 @@ module _ (d : ℕ) (below : d < 16) where
       let no-decimal = between-over (code "0") (code "9") c (omega arith) (omega arith) in
       let no-small = between-under (code "a") (code "f") c (omega arith) in
       let range = between-right (code "A") (code "F") c (omega arith) (omega arith) in
-      (rw (no-decimal, no-small, range), value-capital c no-decimal no-small range ∙ omega arith)
+      (rw (no-decimal, no-small, range), sym (value-capital c no-decimal no-small range .1) ∙ omega arith)
   counts-high false h =
       let c : ℕ = code "a" + (d - 10) in
       let no-decimal = between-over (code "0") (code "9") c (omega arith) (omega arith) in
       let range = between-right (code "a") (code "f") c (omega arith) (omega arith) in
-      (rw (no-decimal, range), value-small c no-decimal range ∙ omega arith)
+      (rw (no-decimal, range), sym (value-small c no-decimal range .1) ∙ omega arith)
 
   pub digit-counts : (capital : Bool) → Counts (digitOf capital d) d
   digit-counts capital = go (ltb d 10) refl
@@ -94,16 +100,7 @@ module _ (d : ℕ) (below : d < 16) where
       go true t = rw (digit-low capital d (ltb-true d 10 t)) (counts-low (ltb-true d 10 t))
       go false t = rw (digit-high capital d (ltb-false d 10 t)) (counts-high capital (ltb-false d 10 t))
 
--- ---- one store more into a lent output: the p elements before it are written, and the rest is as it was
-
-pub more-written : (p d : List ℕ) (i v : ℕ) → length p ≡ i → i < length d → set (p ++ drop i d) i v ≡ (p ++ v ∷ []) ++ drop (i + 1) d
-more-written p d i v e h =
-    rw (add-one, drop-cons d i 0 h) (set-at p (getD d i 0) (drop (suc i) d) v i e ∙ sym (append-snoc p v (drop (suc i) d)))
-
 -- ---- bytes
-
-double : (k : ℕ) → 2 * suc k ≡ suc (suc (2 * k))
-double k = omega arith
 
 pub length-hexBytes : (k : ℕ) (s : List ℕ) → length s ≡ 2 * k → length (hexBytes s) ≡ k
 unfolding hexBytes
@@ -113,38 +110,15 @@ length-hexBytes k (a ∷ []) e = absurd (omega arith)
 length-hexBytes zero (a ∷ b ∷ s) e = absurd (omega arith)
 length-hexBytes (suc k) (a ∷ b ∷ s) e = ap suc (length-hexBytes k s (omega arith))
 
-hexBytes-append : (k : ℕ) (s t : List ℕ) → length s ≡ 2 * k → hexBytes (s ++ t) ≡ hexBytes s ++ hexBytes t
+pub getD-hexBytes : (s : List ℕ) (i : ℕ) → i < length s / 2 → getD (hexBytes s) i 0 ≡ hexByte (getD s (2 * i) 0) (getD s (2 * i + 1) 0)
 unfolding hexBytes
-hexBytes-append k [] t e = refl
-hexBytes-append k (a ∷ []) t e = absurd (omega arith)
-hexBytes-append zero (a ∷ b ∷ s) t e = absurd (omega arith)
-hexBytes-append (suc k) (a ∷ b ∷ s) t e = ap (λ (l : List ℕ). hexByte a b ∷ l) (hexBytes-append k s t (omega arith))
-
-take-two : (s : List ℕ) (n : ℕ) → n + 1 < length s → take (n + 2) s ≡ take n s ++ getD s n 0 ∷ getD s (n + 1) 0 ∷ []
-take-two s n h =
-    let two : n + 2 ≡ suc (n + 1) = omega arith in
-    let one : n + 1 ≡ suc n = omega arith in
-    let front : take (n + 1) s ≡ take n s ++ getD s n 0 ∷ [] = rw one (take-suc s n 0 (omega arith)) in
-    rw two (take-suc s (n + 1) 0 h ∙ ap (λ (l : List ℕ). l ++ getD s (n + 1) 0 ∷ []) front
-    ∙ append-snoc (take n s) (getD s n 0) (getD s (n + 1) 0 ∷ []))
-
-module _ (word out : List ℕ) (i : ℕ) where
-  pub bytes-turn : i < length word / 2 → i < length out
-      → set (hexBytes (take (2 * i) word) ++ drop i out) i (hexByte (getD word (2 * i) 0) (getD word (2 * i + 1) 0))
-      ≡ hexBytes (take (2 * (i + 1)) word) ++ drop (i + 1) out
-  unfolding hexBytes
-  bytes-turn h r =
-      let next : 2 * (i + 1) ≡ 2 * i + 2 = omega arith in
-      let size : length (take (2 * i) word) ≡ 2 * i = length-take-le (2 * i) word (omega arith) in
-      more-written (hexBytes (take (2 * i) word)) out i _ (length-hexBytes i (take (2 * i) word) size) r
-      ∙ ap (λ (l : List ℕ). l ++ drop (i + 1) out)
-      (sym (hexBytes-append i (take (2 * i) word) _ size) ∙ ap hexBytes (sym (ap (λ (n : ℕ). take n word) next ∙ take-two word (2 * i) (omega arith))))
-
-  pub bytes-end : length word % 2 ≡ 0 → i ≡ length word / 2 → i ≤ length out → hexBytes (take (2 * i) word) ++ drop i out ≡ over (hexBytes word) out
-  bytes-end even e room =
-      let whole : take (2 * i) word ≡ word = take-all (2 * i) word (omega arith) in
-      let size : length (hexBytes word) ≡ i = length-hexBytes i word (omega arith) in
-      ap (λ (l : List ℕ). hexBytes l ++ drop i out) whole ∙ sym (over-fits (hexBytes word) out (omega arith) ∙ ap (λ (n : ℕ). hexBytes word ++ drop n out) size)
+getD-hexBytes [] i h = absurd (omega arith)
+getD-hexBytes (a ∷ []) i h = absurd (omega arith)
+getD-hexBytes (a ∷ b ∷ s) zero h = refl
+getD-hexBytes (a ∷ b ∷ s) (suc i) h =
+    let next : 2 * suc i ≡ suc (suc (2 * i)) = omega arith in
+    let after : suc (suc (2 * i)) + 1 ≡ suc (suc (2 * i + 1)) = omega arith in
+    rw (next, after) (getD-hexBytes s i (omega arith))
 
 -- ---- digits
 
@@ -158,29 +132,11 @@ unfolding digitsOf
 digitsOf-append capital [] t = refl
 digitsOf-append capital (b ∷ s) t = ap (λ (l : List ℕ). digitOf capital (b / 16) ∷ digitOf capital (b % 16) ∷ l) (digitsOf-append capital s t)
 
-module _ (capital : Bool) (s out : List ℕ) (i : ℕ) where
-  pub digits-turn : i < length s → 2 * length s ≤ length out
-      → set (set (digitsOf capital (take i s) ++ drop (2 * i) out) (2 * i) (digitOf capital (getD s i 0 / 16))) (2 * i + 1) (digitOf capital (getD s i 0 % 16))
-      ≡ digitsOf capital (take (i + 1) s) ++ drop (2 * (i + 1)) out
-  unfolding digitsOf
-  digits-turn h r =
-      let p : List ℕ = digitsOf capital (take i s) in
-      let high : ℕ = digitOf capital (getD s i 0 / 16) in
-      let low : ℕ = digitOf capital (getD s i 0 % 16) in
-      let more : take (i + 1) s ≡ take i s ++ getD s i 0 ∷ [] = rw add-one (take-suc s i 0 h) in
-      let next : 2 * i + 1 + 1 ≡ 2 * (i + 1) = omega arith in
-      let size : length p ≡ 2 * i = length-digitsOf capital (take i s) ∙ ap (λ (n : ℕ). 2 * n) (length-take-le i s (omega arith)) in
-      ap (λ (l : List ℕ). set l (2 * i + 1) low) (more-written p out (2 * i) high size (omega arith))
-      ∙ more-written (p ++ high ∷ []) out (2 * i + 1) low (length-append p (high ∷ []) ∙ ap (λ (n : ℕ). n + 1) size) (omega arith)
-      ∙ ap₂ (λ (l : List ℕ) (n : ℕ). l ++ drop n out)
-      (append-snoc p high (low ∷ []) ∙ sym (digitsOf-append capital (take i s) (getD s i 0 ∷ [])) ∙ ap (digitsOf capital) (sym more)) next
-
-  pub digits-end : i ≡ length s → 2 * length s ≤ length out → digitsOf capital (take i s) ++ drop (2 * i) out ≡ over (digitsOf capital s) out
-  digits-end e room =
-      let whole : take i s ≡ s = take-all i s (omega arith) in
-      let size : length (digitsOf capital s) ≡ 2 * i = length-digitsOf capital s ∙ ap (λ (n : ℕ). 2 * n) (sym e) in
-      ap (λ (l : List ℕ). digitsOf capital l ++ drop (2 * i) out) whole
-      ∙ sym (over-fits (digitsOf capital s) out (omega arith) ∙ ap (λ (n : ℕ). digitsOf capital s ++ drop n out) size)
+-- one byte's digits more
+pub digits-turn : (capital : Bool) (s : List ℕ) (i : ℕ) → i < length s
+    → digitsOf capital (take (i + 1) s) ≡ digitsOf capital (take i s) ++ digitOf capital (getD s i 0 / 16) ∷ digitOf capital (getD s i 0 % 16) ∷ []
+unfolding digitsOf
+digits-turn capital s i h = rw (add-one, take-suc s i 0 h) (digitsOf-append capital (take i s) (getD s i 0 ∷ []))
 
 -- ---- the calls
 

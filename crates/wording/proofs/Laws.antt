@@ -1,39 +1,37 @@
 -- The laws of specs/Laws.antt.
 -- Assumes nothing.
-use mathlib.Core.Path.{_≡_, refl, ap, ap₂, _∙_}
-use mathlib.Core.Bool.{Bool, true}
+use mathlib.Core.Path.{_≡_, refl, sym, ap, _∙_}
+use mathlib.Core.Bool.{Bool, true, false}
 use mathlib.Core.List.{List, [], _∷_}
-use Prim.Native.Nat.{ℕ, _/_, _%_, _<_}
+use Prim.Native.Nat.{ℕ, _+_, _/_, _%_, _≤_, _<_}
 use native.Mathlib.Omega.{arith}
-use borrow.Author.Tests.{eq-eqb}
-use lib.ListN.{length}
+use borrow.Author.Tests.{eq-eqb, leb-true, leb-false}
+use lib.Dec.{leb}
+use lib.ListN.{length, length-append}
 use Rattle.octets.specs.Bytes.{Bytes}
 use Rattle.octets.specs.Lent.{over}
 use Rattle.octets.specs.Tests.{all}
 use Rattle.octets.proofs.Bytes.{bytes-head, bytes-tail}
 use Rattle.octets.proofs.Values.{cons-equal}
 use Rattle.octets.proofs.Unique.{unique}
-use Rattle.wording.specs.Decimal.{decimal}
 use Rattle.wording.specs.Hex.{isHexDigit, digitOf, isHex, hexByte, hexBytes, digitsOf, hexRead}
-use Rattle.wording.specs.Writing.{nowhere, putAt}
-use Rattle.wording.specs.Laws.{DecimalReads, DecimalDigits, NoZeroBefore, DigitsLength, ThereAndBack, ReadTestsRise, ReadUnique, NowhereStays, PutUnique}
-use Rattle.wording.proofs.Decimal.{within-reads, within-digits, within-first}
+use Rattle.wording.specs.Lines.{together}
+use Rattle.wording.specs.Writing.{nowhere, putAt, putAll}
+use Rattle.wording.specs.Laws.{DecimalReads, DecimalDigits, NoZeroBefore, DigitsLength, ThereAndBack, ReadTestsRise, ReadUnique, NowhereStays, LastTells, PutUnique}
+use Rattle.wording.proofs.Decimal.{decimal-value, decimal-are, decimal-first}
 use Rattle.wording.proofs.Digits.{digit-counts, length-digitsOf, read-done}
-use Rattle.wording.proofs.Wrote.{put-not}
+use Rattle.wording.proofs.Wrote.{put-not, put-fits, put-wrote, wrote-length, Puts, puts, done, puts-wrote}
 
 -- ---- decimal digits
 
 pub decimal-reads : DecimalReads
-unfolding decimal
-decimal-reads n = within-reads n n (omega arith)
+decimal-reads = decimal-value
 
 pub decimal-digits : DecimalDigits
-unfolding decimal
-decimal-digits n = within-digits n n (omega arith)
+decimal-digits = decimal-are
 
 pub no-zero-before : NoZeroBefore
-unfolding decimal
-no-zero-before n e = within-first n n (omega arith) e
+no-zero-before n = decimal-first n .1
 
 -- ---- hexadecimal digits
 
@@ -75,6 +73,42 @@ read-unique word out = unique (hexRead word out)
 
 pub nowhere-stays : NowhereStays
 nowhere-stays s room h = put-not nowhere s room (omega arith)
+
+stays-all : (ss : List (List ℕ)) (room : List ℕ) → length room < nowhere → putAll nowhere ss room .0 ≡ nowhere
+stays-all [] room h = refl
+stays-all (s ∷ ss) room h = ap (λ (a : ℕ × List ℕ). putAll (a .0) ss (a .1) .0) (nowhere-stays s room h) ∙ stays-all ss room h
+
+-- texts that together do not fit
+abbrev Overruns : List (List ℕ) → Type 0
+Overruns ss =
+    (at : ℕ) (room : List ℕ) → at ≤ length room → length room < nowhere → length room < at + length (together ss) → putAll at ss room .0 ≡ nowhere
+
+overruns : (ss : List (List ℕ)) → Overruns ss
+overruns [] at room within h long = absurd (omega arith)
+overruns (s ∷ ss) at room within h long = go (leb (at + length s) (length room)) refl (overruns ss)
+  where
+    go : (t : Bool) → leb (at + length s) (length room) ≡ t → Overruns ss → putAll at (s ∷ ss) room .0 ≡ nowhere
+    go true e more =
+        let w = put-fits at s room (leb-true (at + length s) (length room) e) refl in
+        let size = wrote-length w in
+        let both = length-append s (together ss) in
+        more (putAt at s room .0) (putAt at s room .1) (omega (arith, w .place, w .fits)) (omega arith) (omega (arith, w .place))
+    go false e more =
+        ap (λ (a : ℕ × List ℕ). putAll (a .0) ss (a .1) .0) (put-not at s room (leb-false (at + length s) (length room) e)) ∙ stays-all ss room h
+
+puts-all : (ss : List (List ℕ)) (at : ℕ) (room : List ℕ) → Puts at room ss (putAll at ss room .0) (putAll at ss room .1)
+puts-all [] at room = done
+puts-all (s ∷ ss) at room = puts refl (puts-all ss (putAt at s room .0) (putAt at s room .1))
+
+pub last-tells : LastTells
+last-tells ss at room within h = go (leb (at + length (together ss)) (length room)) refl
+  where
+    go : (t : Bool) → leb (at + length (together ss)) (length room) ≡ t → putAll at ss room .0 ≡ putAt at (together ss) room .0
+    go true e =
+        sym (ap (λ (a : ℕ × List ℕ). a .0) (put-wrote (puts-wrote (puts-all ss at room) (leb-true (at + length (together ss)) (length room) e))))
+    go false e =
+        let long = leb-false (at + length (together ss)) (length room) e in
+        overruns ss at room within h long ∙ sym (ap (λ (a : ℕ × List ℕ). a .0) (put-not at (together ss) room long))
 
 pub put-unique : PutUnique
 put-unique at s room = unique (putAt at s room)

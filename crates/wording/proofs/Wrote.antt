@@ -1,19 +1,22 @@
 -- Texts written into lent room: where one fits, and one after the other.
 -- Assumes nothing.
 use mathlib.Core.Path.{_≡_, refl, sym, ap, ap₂, _∙_}
+use mathlib.Core.Bool.{Bool}
 use mathlib.Core.List.{List, [], _∷_, _++_, append-assoc, append-nil}
-use Prim.Native.Nat.{ℕ, _+_, _-_, _^_, _≤_, _<_}
+use Prim.Native.Nat.{ℕ, _+_, _-_, _*_, _/_, _%_, _^_, _≤_, _<_}
 use native.Mathlib.Nat.{zero-add, add-zero}
 use native.Mathlib.Omega.{arith}
-use lib.ListN.{length, take, drop, length-append, length-drop, drop-of-length-le, take-append-drop, replicate}
+use lib.ListN.{length, getD, take, drop, length-append, length-drop, drop-of-length-le, take-append-drop, replicate}
 use lib.Seq.{length-take-le, take-all, take-at, drop-at, drop-drop}
 use borrow.Author.Tests.{le-leb, lt-leb}
 use Rattle.octets.specs.Lent.{over}
 use Rattle.octets.proofs.Lent.{over-fits}
 use Rattle.wording.specs.Decimal.{decimal}
+use Rattle.wording.specs.Hex.{digitOf, digitsOf}
 use Rattle.wording.specs.Lines.{space, newline, together}
 use Rattle.wording.specs.Writing.{nowhere, putAt, Wrote}
 use Rattle.wording.proofs.Decimal.{length-decimal64}
+use Rattle.wording.proofs.Digits.{length-digitsOf, digits-turn}
 
 -- ---- one text: it fits, or it does not
 
@@ -106,7 +109,7 @@ pub data Puts : ℕ → List ℕ → List (List ℕ) → ℕ → List ℕ → Ty
   puts : {at m end : ℕ} {s room between after : List ℕ} {ss : List (List ℕ)}
       → putAt at s room ≡ (m, between) → Puts m between ss end after → Puts at room (s ∷ ss) end after
 
-wrote-none : (at : ℕ) (room : List ℕ) → at ≤ length room → Wrote at [] room room at
+pub wrote-none : (at : ℕ) (room : List ℕ) → at ≤ length room → Wrote at [] room room at
 wrote-none at room h = record { fits = omega arith; place = omega arith; text = rw add-zero (sym (take-append-drop at room)) }
 
 -- where all of them together fit
@@ -137,3 +140,13 @@ module _ (n : ℕ) (h : n < 2 ^ 64) {a b e : ℕ} {s t after : List ℕ} where
       → Wrote 0 (space ∷ (decimal n ++ newline ∷ [])) (replicate 22 0) after e
   line-end p q r =
       puts-wrote (puts p (puts q (puts r done))) (simp length-append (omega (arith, length-decimal64 n h)))
+
+-- ---- a string's hexadecimal digits, two for each byte
+
+module _ (capital : Bool) (s : List ℕ) (at i : ℕ) {room between after : List ℕ} {e end high low : ℕ} where
+  pub hex-turn : i < length s → at + 2 * length s ≤ length room → Wrote at (digitsOf capital (take i s)) room between e
+      → high ≡ digitOf capital (getD s i 0 / 16) → low ≡ digitOf capital (getD s i 0 % 16)
+      → Puts e between ((high ∷ []) ∷ (low ∷ []) ∷ []) end after → Wrote at (digitsOf capital (take (i + 1) s)) room after end
+  hex-turn h fits w eh el two =
+      rw (digits-turn capital s i h, ← eh, ← el)
+      (wrote-then w (puts-wrote two (omega (arith, w .place, wrote-length w, length-digitsOf capital (take i s), length-take-le i s (omega arith)))))

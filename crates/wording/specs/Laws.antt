@@ -12,7 +12,8 @@ use Rattle.octets.specs.Tests.{all}
 use Rattle.octets.specs.Unique.{Unique}
 use Rattle.wording.specs.Decimal.{isDecimalDigit, decimalDigit, decimal, valueOf}
 use Rattle.wording.specs.Hex.{digitsOf, hexReadTests, hexRead}
-use Rattle.wording.specs.Writing.{nowhere, putAt}
+use Rattle.wording.specs.Lines.{together}
+use Rattle.wording.specs.Writing.{nowhere, putAt, putAll}
 
 -- ---- decimal digits: read back they are the number, each is a digit, and no zero stands before others
 
@@ -45,9 +46,14 @@ ReadUnique = (word out : List ℕ) → Unique (hexRead word out)
 
 -- ---- writing
 
--- past the end all stays as it is, so that the last answer of texts written one after the other tells of each of them
+-- past the end all stays as it is
 abbrev pub NowhereStays : Type 0
 NowhereStays = (s room : List ℕ) → length room < nowhere → putAt nowhere s room ≡ (nowhere, room)
+
+-- so the last answer of texts put one after the other is that of all of them put at once
+abbrev pub LastTells : Type 0
+LastTells =
+    (ss : List (List ℕ)) (at : ℕ) (room : List ℕ) → at ≤ length room → length room < nowhere → putAll at ss room .0 ≡ putAt at (together ss) room .0
 
 -- for each text, place and room one answer and one state of the room
 abbrev pub PutUnique : Type 0

@@ -5,7 +5,7 @@ ghost use lib.ListN.{length};
 ghost use Rattle.octets.specs.Lent.{over};
 ghost use Rattle.octets.specs.Tests.{all};
 ghost use Rattle.wording.specs.Decimal.{between, isDecimalDigit};
-ghost use Rattle.wording.specs.Hex.{isSmallDigit, isCapitalDigit, isHexDigit, digitValue, hexByte, hexBytes, isHex, digitOf, digitsOf, hexRead};
+ghost use Rattle.wording.specs.Hex.{isSmallDigit, isCapitalDigit, isHexDigit, digitValue, hexByte, hexBytes, isHex, digitOf, hexRead};
 
 fn lies_between(c: u8, low: u8, high: u8) -> bool
     ensures { λ r. ⌜ r ≡ between low high c ⌝ }
@@ -106,7 +106,7 @@ pub fn read(word: &[u8], out: &mut [u8]) -> u8
 }
 
 // The digit of a number below 16, a letter from ten on.
-fn digit_of(d: u8, capital: bool) -> u8
+pub(crate) fn digit_of(d: u8, capital: bool) -> u8
     requires { ⌜ d < 16 ⌝ }
     ensures { λ r. ⌜ r ≡ digitOf capital d ⌝ }
 {
@@ -117,17 +117,4 @@ fn digit_of(d: u8, capital: bool) -> u8
         return b'A' + (d - 10);
     }
     b'a' + (d - 10)
-}
-
-// The digits over the front of out, two for each byte.
-pub(crate) fn fill_digits(bytes: &[u8], capital: bool, out: &mut [u8])
-    requires { ⌜ 2 * length (now bytes) ≤ length (now out) ⌝ }
-    ensures { λ _. ⌜ now (out .exit) ≡ over (digitsOf capital (now (bytes .entry))) (now (out .entry)) ⌝ }
-{
-    let mut i = 0;
-    while i < bytes.len() {
-        out[2 * i] = digit_of(bytes[i] / 16, capital);
-        out[2 * i + 1] = digit_of(bytes[i] % 16, capital);
-        i += 1;
-    }
 }

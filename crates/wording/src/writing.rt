@@ -1,12 +1,11 @@
 // Text written into lent room: each function puts all of its text at a place and answers the place after it, or, where
 // the text does not fit, changes nothing and answers NOWHERE. No text fits at NOWHERE.
-use crate::hex::fill_digits;
+use crate::hex::digit_of;
 use octets::strings::put;
 ghost use mathlib.Core.Path.{_≡_};
-ghost use Prim.Native.Nat.{_+_, _<_};
+ghost use Prim.Native.Nat.{_+_};
 ghost use mathlib.Core.List.{[], _∷_, _++_};
 ghost use lib.Dec.{leb};
-ghost use lib.ListN.{length};
 ghost use Rattle.wording.specs.Decimal.{decimal};
 ghost use Rattle.wording.specs.Hex.{digitsOf};
 ghost use Rattle.wording.specs.Lines.{line};
@@ -14,11 +13,13 @@ ghost use Rattle.wording.specs.Writing.{putAt};
 
 pub const NOWHERE: usize = 18446744073709551615;
 
-// The most decimal digits that a number of 64 bits has, and with a space before them and a newline after them.
+// The most decimal digits that a number of 64 bits has.
 const DIGITS_MAX: usize = 20;
 
+// These, a space before them and a newline after them.
 const LINE_END_MAX: usize = 22;
 
+// Whether so many bytes from a place on lie within the room.
 fn has_room(room: usize, at: usize, size: usize) -> bool
     ensures { λ r. ⌜ r ≡ leb (at + size) room ⌝ }
 {
@@ -83,8 +84,14 @@ pub fn put_hex(out: &mut [u8], at: usize, s: &[u8], capital: bool) -> usize
     if !has_room(out.len(), at, 2 * s.len()) {
         return NOWHERE;
     }
-    fill_digits(s, capital, &mut out[at..]);
-    at + 2 * s.len()
+    let mut end = at;
+    let mut i = 0;
+    while i < s.len() {
+        end = put_byte(out, end, digit_of(s[i] / 16, capital));
+        end = put_byte(out, end, digit_of(s[i] % 16, capital));
+        i += 1;
+    }
+    end
 }
 
 // A word, a space, a number and a newline.

@@ -5,7 +5,7 @@ use lib.Dec.{lit<}
 use lib.ListN.{replicate}
 use borrow.Author.Needs.{needs}
 use Rattle.wording.proofs.Wrote.{put-fits}
-use Rattle.page_text.specs.Listing.{refused}
+use Rattle.page_text.specs.Listing.{refusedLine}
 use Rattle.page_text.proofs.Listing.{listing-long, listing-refused, listing-fields, refused-fits}
 use Rattle.page_text.proofs.put_listing.Statement.{statement}
 use Rattle.page_text.proofs.put_listing.Tie as tie
@@ -15,7 +15,7 @@ returns c =
     let long = c .before .before .before .before .before in
     let s = long .before .before .before in
     rw (listing-long (s .args .input .now) (long .if1 .taken))
-    (put-fits 0 (refused 4) _ (omega (arith, refused-fits 4 (lit< tt), s .pre)) (c .before .before .put-line .ensures))
+    (put-fits 0 (refusedLine 4) _ (omega (arith, refused-fits 4 (lit< tt), s .pre)) (c .before .before .put-line .ensures))
 
 returns-2 : tie.Need-returns-2
 returns-2 c =
@@ -25,7 +25,7 @@ returns-2 c =
     let s = short .before .before .before in
     let n = read .read .result in
     rw (listing-refused (s .args .input .now) (replicate 14 0) (short .if1 .left) (read .read .ensures) (none .if2 .taken))
-    (put-fits 0 (refused n) _ (omega (arith, refused-fits n (omega (arith, read .read .ok)), s .pre)) (c .before .before .put-line2 .ensures))
+    (put-fits 0 (refusedLine n) _ (omega (arith, refused-fits n (omega (arith, read .read .ok)), s .pre)) (c .before .before .put-line2 .ensures))
 
 returns-3 : tie.Need-returns-3
 returns-3 c =

@@ -3,7 +3,6 @@
 use mathlib.Core.Path.{sym}
 use Prim.Native.Nat.{_+_}
 use native.Mathlib.Omega.{arith}
-use borrow.Author.Needs.{needs}
 use borrow.Author.Tests.{le-leb, lt-leb}
 use Rattle.wording.proofs.writing.has_room.Statement.{statement}
 use Rattle.wording.proofs.writing.has_room.Tie as tie
