@@ -48,7 +48,7 @@ pub lines-turn : (n : ℕ) (s : List ℕ) (c next : Cursor) {at m e : ℕ} {room
 unfolding descriptorLines
 lines-turn zero s c next h step more = absurd (omega (arith, h))
 lines-turn (suc n) s c next h step more =
-    let one : suc n - 1 ≡ n = omega arith in both-wrote (step .shown) (rw (one, step .moved) at more)
+    let one : suc n - 1 ≡ n = omega arith in both-wrote (step .shown) (rw (one, step .next-place) at more)
 
 pub lines-end : (n : ℕ) (s : List ℕ) (c : Cursor) (at : ℕ) {room : List ℕ} → n ≤ 0 → WroteIfFits at (descriptorLines (shownBy n s c)) room room at
 unfolding descriptorLines

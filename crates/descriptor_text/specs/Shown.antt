@@ -15,7 +15,7 @@ pub record WroteIfFits (at : ℕ) (s before final : List ℕ) (end : ℕ) : Type
 
 -- a step from the cursor c: the cursor after it, and the line of what it shows at the place
 pub record StepWrote (s : List ℕ) (c : Cursor) (at : ℕ) (before final : List ℕ) (next : Cursor) (end : ℕ) : Type 0 where
-  pub moved : next ≡ advanceOf s c .next
+  pub next-place : next ≡ advanceOf s c .next
   pub shown : WroteIfFits at (descriptorLine (partShown s (advanceOf s c))) before final end
 
 -- the descriptors that n steps from a cursor show

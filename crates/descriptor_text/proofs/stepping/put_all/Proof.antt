@@ -26,7 +26,7 @@ loop-again c =
     let step = c .before .before .before .put-next in
     let test = c .before .before .before .before .before in
     let l = test .before in (
-      λ final end more. l .loop .inv .0 final end (lines-turn _ _ _ _ (test .loop-test .taken) (step .ensures) more),
+      λ final end more. l .loop .inv .0 final end (lines-turn (l .loop .left) _ _ _ (omega (arith, test .loop-test .taken)) (step .ensures) more),
       step .kept .1 .1 .0 ∙ l .loop .inv .1,
     )
 

@@ -217,7 +217,7 @@ module _ {M : Type 1} (𝓤 : URA M) (H : Heap 𝓤) (A : Atoms 𝓤) (W : Given
       qed W ((‵ (flft κ₁ q₁) ⊛ ‵ (flft κ ql) ⊛ ‵ ftrue) ∷ (‵ (flft κ qr) ⊛ ‵ ftrue) ∷ ‵ (finally u8 γ zs) ∷ []) ∵
       suffices ! _ (ends-at 𝓤 H A here.ended stayed (here.clauses 𝓤 H A at-mem run) W (((κ, (κ₁, tt)), (q, (q₁, tt)), tt, a, vals), tt)
       (stepped (h′ .place) n) (made (h′ .place) n) (tt, (tt, (zs, (tt, tt)))) (tt, (tt, (l, (tt, tt))))) $
-      says ! (record { moved = moves r h′ e; shown = writes r h′ n zs e e₂ }) $
+      says ! (record { next-place = moves r h′ e; shown = writes r h′ n zs e e₂ }) $
       -- the list's token is one again
       split ! $ move ! (1 ∷ []) $ split ! $ move ! (3 ∷ []) $ split ! $ move ! (2 ∷ 0 ∷ []) $ use2 W (‵ (flft κ q)) (W .lfts .lft-join κ q) $
       move ! (3 ∷ 1 ∷ []) $ join ! $ move ! (1 ∷ 0 ∷ []) $ join ! $ frame ! $
