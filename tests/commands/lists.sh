@@ -82,6 +82,11 @@ descriptors 2
 03 0001 FE
 C0 0000 -
 TEXT
+hex "$(printf '%02x000000' {0..255})" >"$room/list"
+page "$room/list" >"$room/page"
+gives "a page with every type" 0 descriptors "$room/page"
+[ "$(sed -n '1p; 6p; $p' "$room/wrote" | xargs)" = "descriptors 68 C0 0000 - FF 0000 -" ]
+test_that $? "a page with every type: $(sed -n '1p; 6p; $p' "$room/wrote" | xargs)"
 for n in 4040 4041 65483; do
     { hex C0 00; hex "$(printf '%04x' "$n")"; some "$n"; } >"$room/list"
     page "$room/list" >"$room/page$n"
@@ -91,6 +96,8 @@ gives "descriptors of a page of 4,097 bytes" 4 descriptors "$room/page4041"
 gives "descriptors of a page of 65,539 bytes" 4 descriptors "$room/page65483"
 head -c 65538 "$room/page65483" >"$room/cut"
 gives "the same, a byte short" 2 descriptors "$room/cut"
+{ cat "$room/page65483"; zeros 1; } >"$room/page65540"
+gives "the same, and a byte more" 2 descriptors "$room/page65540"
 gives "descriptors of a page that is not permitted" 3 descriptors examples/pages/refused.bin
 gives "descriptors of an empty file" 2 descriptors /dev/null
 
