@@ -95,7 +95,8 @@ fn put_called(
     lent: [u8; WORD_MAX],
 ) -> usize
     requires { ⌜ (length (now out) ≤ runMax) × (asked < callCount) × (size ≤ wordMax) × (length lent ≡ wordMax) ⌝ }
-    ensures { λ r. ⌜ Put at (answerText (now (name .entry)) (getD calls asked noCall .gives (now (a .entry)) (now (b .entry)) (now (c .entry)) (now (d .entry)) (now (e .entry)) (take size lent))) (now (out .entry)) (now (out .exit)) r ⌝ }
+    ensures { λ r. ⌜ Put at (answerText (now (name .entry)) (getD calls asked noCall .gives (now (a .entry)) (now (b .entry)) (now (c .entry)) (now (d .entry)) (now (e .entry)) (take size lent)))
+        (now (out .entry)) (now (out .exit)) r ⌝ }
 {
     let mut room = lent;
     let number = call(asked, a, b, c, d, e, &mut room[..size]);

@@ -64,11 +64,17 @@ returns-10 : tie.Need-returns-10
 returns-10 c =
     let called = c .before .before in
     let m = called .before .before in
-    let r = m .match .rest in
     let n = m .before .before .before .before .before .before .before in
-    rw
-    (ninth (n .args .number) (n .pre)
-    (past 8 (past 7 (past 6 (past 5 (past 4 (past 3 (past 2 (past 1 (past 0 (omega arith) (r .0 .0 .0 .0 .0 .0 .0 .0 .1)) (r .0 .0 .0 .0 .0 .0 .0 .1)) (r .0 .0 .0 .0 .0 .0 .1)) (r .0 .0 .0 .0 .0 .1)) (r .0 .0 .0 .0 .1)) (r .0 .0 .0 .1)) (r .0 .0 .1)) (r .0 .1)) (r .1)))
+    let r₈ = m .match .rest in
+    let r₇ = r₈ .0 in
+    let r₆ = r₇ .0 in
+    let r₅ = r₆ .0 in
+    let r₄ = r₅ .0 in
+    let r₃ = r₄ .0 in
+    let r₂ = r₃ .0 in
+    let r₁ = r₂ .0 in
+    let four = past 3 (past 2 (past 1 (past 0 (omega arith) (r₁ .0 .1)) (r₁ .1)) (r₂ .1)) (r₃ .1) in
+    rw (ninth (n .args .number) (n .pre) (past 8 (past 7 (past 6 (past 5 (past 4 four (r₄ .1)) (r₅ .1)) (r₆ .1)) (r₇ .1)) (r₈ .1)))
     (called .unwrap .ensures)
 
 pub call-spec : {M : Type 1} → statement M

@@ -1,6 +1,7 @@
 -- `cases::lines::put_asked` meets its contract: each string by what reading it tells.
 -- Assumes nothing.
 use mathlib.Core.Path.{_≡_, ap, _∙_}
+use mathlib.Core.Bool.{Bool}
 use mathlib.Core.List.{List}
 use Prim.Native.Nat.{ℕ, _+_}
 use native.Mathlib.Omega.{arith}
@@ -41,24 +42,47 @@ text b = now (start b .args .line)
 abbrev asked : At → Call
 asked b = getD calls (start b .args .asked) noCall
 
-first : (b : At) → Holds (isBytes (stringAt (text b) (n b) 0)) (bytesIn (stringAt (text b) (n b) 0)) (b .before .before .before .before .before .before .before .before .before .before .before .before .read-word .result .right) (b .before .before .before .before .before .before .before .before .before .before .before .before .read-word .result .size) (b .before .before .before .before .before .before .before .before .before .before .before .before .read-word .result .bytes)
-first b = string-held (b .before .before .before .before .before .before .before .before .before .before .before .before .before .string-at .ensures) (b .before .before .before .before .before .before .before .before .before .before .before .before .read-word .ensures)
+-- what reading the string of number i told
+abbrev Got : At → ℕ → Bool → ℕ → List ℕ → Type 0
+Got b i right size bytes = Holds (isBytes (stringAt (text b) (n b) i)) (bytesIn (stringAt (text b) (n b) i)) right size bytes
 
-second : (b : At) → Holds (isBytes (stringAt (text b) (n b) 1)) (bytesIn (stringAt (text b) (n b) 1)) (b .before .before .before .before .before .before .before .before .before .before .read-word2 .result .right) (b .before .before .before .before .before .before .before .before .before .before .read-word2 .result .size) (b .before .before .before .before .before .before .before .before .before .before .read-word2 .result .bytes)
-second b = string-held (b .before .before .before .before .before .before .before .before .before .before .before .string-at2 .ensures) (b .before .before .before .before .before .before .before .before .before .before .read-word2 .ensures)
+abbrev read5 : At → tie.After-read-word5
+read5 b = b .before .before .before .before
 
-third : (b : At) → Holds (isBytes (stringAt (text b) (n b) 2)) (bytesIn (stringAt (text b) (n b) 2)) (b .before .before .before .before .before .before .before .before .read-word3 .result .right) (b .before .before .before .before .before .before .before .before .read-word3 .result .size) (b .before .before .before .before .before .before .before .before .read-word3 .result .bytes)
-third b = string-held (b .before .before .before .before .before .before .before .before .before .string-at3 .ensures) (b .before .before .before .before .before .before .before .before .read-word3 .ensures)
+abbrev read4 : At → tie.After-read-word4
+read4 b = read5 b .before .before
 
-fourth : (b : At) → Holds (isBytes (stringAt (text b) (n b) 3)) (bytesIn (stringAt (text b) (n b) 3)) (b .before .before .before .before .before .before .read-word4 .result .right) (b .before .before .before .before .before .before .read-word4 .result .size) (b .before .before .before .before .before .before .read-word4 .result .bytes)
-fourth b = string-held (b .before .before .before .before .before .before .before .string-at4 .ensures) (b .before .before .before .before .before .before .read-word4 .ensures)
+abbrev read3 : At → tie.After-read-word3
+read3 b = read4 b .before .before
 
-fifth : (b : At) → Holds (isBytes (stringAt (text b) (n b) 4)) (bytesIn (stringAt (text b) (n b) 4)) (b .before .before .before .before .read-word5 .result .right) (b .before .before .before .before .read-word5 .result .size) (b .before .before .before .before .read-word5 .result .bytes)
-fifth b = string-held (b .before .before .before .before .before .string-at5 .ensures) (b .before .before .before .before .read-word5 .ensures)
+abbrev read2 : At → tie.After-read-word2
+read2 b = read3 b .before .before
+
+abbrev read1 : At → tie.After-read-word
+read1 b = read2 b .before .before
+
+first : (b : At) → Got b 0 (read1 b .read-word .result .right) (read1 b .read-word .result .size) (read1 b .read-word .result .bytes)
+first b = string-held (read1 b .before .string-at .ensures) (read1 b .read-word .ensures)
+
+second : (b : At) → Got b 1 (read2 b .read-word2 .result .right) (read2 b .read-word2 .result .size) (read2 b .read-word2 .result .bytes)
+second b = string-held (read2 b .before .string-at2 .ensures) (read2 b .read-word2 .ensures)
+
+third : (b : At) → Got b 2 (read3 b .read-word3 .result .right) (read3 b .read-word3 .result .size) (read3 b .read-word3 .result .bytes)
+third b = string-held (read3 b .before .string-at3 .ensures) (read3 b .read-word3 .ensures)
+
+fourth : (b : At) → Got b 3 (read4 b .read-word4 .result .right) (read4 b .read-word4 .result .size) (read4 b .read-word4 .result .bytes)
+fourth b = string-held (read4 b .before .string-at4 .ensures) (read4 b .read-word4 .ensures)
+
+fifth : (b : At) → Got b 4 (read5 b .read-word5 .result .right) (read5 b .read-word5 .result .size) (read5 b .read-word5 .result .bytes)
+fifth b = string-held (read5 b .before .string-at5 .ensures) (read5 b .read-word5 .ensures)
+
+abbrev lends : At → tie.After-lend
+lends b = b .before .before
 
 lent : (b : At)
-    → Holds (isLent (eqb (n b) 1) (wordAt (text b) (n b + 2))) (lentIn (eqb (n b) 1) (wordAt (text b) (n b + 2))) (b .before .before .lend .result .right) (b .before .before .lend .result .size) (b .before .before .lend .result .bytes)
-lent b = lent-held (eqb (n b) 1) (b .before .before .before .word .ensures) (b .before .before .lend .ensures)
+    → Holds (isLent (eqb (n b) 1) (wordAt (text b) (n b + 2))) (lentIn (eqb (n b) 1) (wordAt (text b) (n b + 2)))
+    (lends b .lend .result .right) (lends b .lend .result .size) (lends b .lend .result .bytes)
+lent b = lent-held (eqb (n b) 1) (lends b .before .word .ensures) (lends b .lend .ensures)
 
 block : (b : At) → eqb (n b) 1 ≡ asked b .block
 block b = ap (λ (m : ℕ). eqb m 1) (takes b .strings-of .ensures .0) ∙ block-at (start b .args .asked)

@@ -38,7 +38,8 @@ returns-2 c =
     let t = p .before .before in
     let w = t .before in
     let e = w .before .before .before in
-    rw (case-asked (now (start w .args .line)) (start w .args .number) (named w) (sym (e .before .is-comment .ensures) ∙ e .if1 .left) (sym (w .words-right .ensures) ∙ t .if2 .taken)) (p .put-asked .ensures)
+    rw (case-asked (now (start w .args .line)) (start w .args .number) (named w) (sym (e .before .is-comment .ensures) ∙ e .if1 .left) (sym (w .words-right .ensures) ∙ t .if2 .taken))
+    (p .put-asked .ensures)
 
 returns-3 : tie.Need-returns-3
 returns-3 c =

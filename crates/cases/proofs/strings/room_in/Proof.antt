@@ -39,7 +39,10 @@ returns-2 c =
     room-other (l .before .before .args .word .now) (l .loop .n) (l .loop .i) (l .loop .inv .2) (l .loop .inv .3) (t .loop-test .taken) (sym (d .is-decimal .ensures) ∙ not-true _ (c .if2 .taken))
 
 -- the byte at i is a digit
-is-digit : (c : tie.Else2 Inv-loop μ-loop) → isDecimalDigit (getD (now (c .before .before .before .before .before .before .before .args .word)) (c .before .before .before .before .before .loop .i) 0) ≡ true
+abbrev loop-at : tie.Else2 Inv-loop μ-loop → tie.At-loop Inv-loop μ-loop
+loop-at c = c .before .before .before .before .before
+
+is-digit : (c : tie.Else2 Inv-loop μ-loop) → isDecimalDigit (getD (now (loop-at c .before .before .args .word)) (loop-at c .loop .i) 0) ≡ true
 is-digit c = sym (c .before .is-decimal .ensures) ∙ not-false _ (c .if2 .left)
 
 digit-in-requires : tie.Need-digit-in-requires Inv-loop μ-loop
