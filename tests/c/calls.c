@@ -112,6 +112,17 @@ static uint64_t number_at(char *word, char **rest)
 
 static uint8_t aes256_encrypt(void) { return spadeswirl_aes256_encrypt(S(0), S(1)); }
 static uint8_t aes256_decrypt(void) { return spadeswirl_aes256_decrypt(S(0), S(1)); }
+/* The block 1,000 times over, each output the next input, up to the first refusal. */
+static uint8_t thousand(uint8_t (*once)(void))
+{
+    uint8_t number = 0;
+    for (int i = 0; i < 1000 && number == 0; i++)
+        number = once();
+    return number;
+}
+
+static uint8_t aes256_encrypt_1000(void) { return thousand(aes256_encrypt); }
+static uint8_t aes256_decrypt_1000(void) { return thousand(aes256_decrypt); }
 static uint8_t ccm_encrypt(void) { return spadeswirl_ccm_encrypt(S(0), S(1), S(2), S(3), OUT); }
 static uint8_t ccm_decrypt(void) { return spadeswirl_ccm_decrypt(S(0), S(1), S(2), S(3), S(4), OUT); }
 static uint8_t gcm_encrypt(void) { return spadeswirl_gcm_encrypt(S(0), S(1), S(2), S(3), OUT); }
@@ -140,6 +151,8 @@ static const struct call {
     uint8_t (*make)(void);
 } calls[] = {
     { "aes256_encrypt", 2, 0, BLOCK, 0, aes256_encrypt }, { "aes256_decrypt", 2, 0, BLOCK, 0, aes256_decrypt },
+    { "aes256_encrypt_1000", 2, 0, BLOCK, 0, aes256_encrypt_1000 },
+    { "aes256_decrypt_1000", 2, 0, BLOCK, 0, aes256_decrypt_1000 },
     { "ccm_encrypt", 4, 0, OUTPUT, 0, ccm_encrypt }, { "ccm_decrypt", 5, 0, OUTPUT, 0, ccm_decrypt },
     { "gcm_encrypt", 4, 0, OUTPUT, 0, gcm_encrypt }, { "gcm_decrypt", 5, 0, OUTPUT, 0, gcm_decrypt },
     { "wrap", 2, 0, OUTPUT, 0, wrap }, { "unwrap", 2, 0, OUTPUT, 0, unwrap },

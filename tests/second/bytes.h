@@ -3,7 +3,7 @@
 #define BYTES_H
 
 #include <stdint.h>
-#include "lines.h"
+#include "words.h"
 
 static const struct bytes nothing = { (unsigned char *)"", 0 };
 

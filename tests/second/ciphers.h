@@ -3,7 +3,7 @@
 #define CIPHERS_H
 
 #include <openssl/evp.h>
-#include "lines.h"
+#include "words.h"
 
 static inline void must(int done, const char *what)
 {

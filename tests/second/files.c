@@ -2,9 +2,9 @@
  * The second program on files, with the words of ./spadeswirl: what it writes to standard output is what that is to
  * write, and the number is on standard error. It is also what seals the records of examples/.
  */
-#include "lists.h"
-#include "pages.h"
-#include "records.h"
+#include "model/lists.h"
+#include "model/pages.h"
+#include "model/records.h"
 
 static struct bytes file(const char *path)
 {
@@ -22,6 +22,22 @@ static struct bytes file(const char *path)
 static struct bytes optional(const char *path)
 {
     return path ? file(path) : nothing;
+}
+
+/* The text of a list: how many descriptors are not reserved, then these, a line each, in capital digits. How long it is. */
+static size_t put_list(struct bytes list, int label, unsigned long long count, char *text)
+{
+    char *end = text + sprintf(text, "descriptors %llu\n", count);
+    for (uint64_t at = 0, next; at < list.len; at = next) {
+        next = descriptor_end(list, at);
+        if (reserved(label, list.at[at]))
+            continue;
+        end += sprintf(end, "%02X %04X %s", list.at[at], two(list.at + at + 2), next == at + DESCRIPTOR_HEAD ? "-" : "");
+        for (uint64_t i = at + DESCRIPTOR_HEAD; i < next; i++)
+            end += sprintf(end, "%02X", list.at[i]);
+        *end++ = '\n';
+    }
+    return (size_t)(end - text);
 }
 
 int main(int argc, char **argv)
@@ -43,9 +59,19 @@ int main(int argc, char **argv)
         if (!number)
             count = (unsigned long long)sprintf((char *)out.at, "rows %u\n", two(table.at + 2));
     } else if (strcmp(command, "label") == 0) {
-        number = label_check(file(argv[2]), &count);
+        struct bytes label = file(argv[2]), list = { label.at + 2, label.len - 2 };
+        number = label_check(label, &count);
         if (!number)
-            count = (unsigned long long)sprintf((char *)out.at, "descriptors %llu\n", count);
+            count = put_list(list, 1, count, (char *)out.at);
+    } else if (strcmp(command, "descriptors") == 0) {
+        struct bytes page = file(argv[2]), key, list;
+        unsigned long long fields[PAGE_FIELDS];
+        number = page_read(page, fields);
+        if (!number) {
+            key = page_key(page);
+            list.at = key.at + key.len, list.len = page.len - PAGE_HEAD - key.len;
+            count = put_list(list, 0, fields[PAGE_FIELDS - 1], (char *)out.at);
+        }
     } else {
         fail("no such command", command);
     }

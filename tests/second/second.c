@@ -5,13 +5,13 @@
  * says; so is a number stored, and a session to be started. A line of session_issue or of seal_next ends with prefix,
  * start, spent byte, and rooms with commas between: the start is answered as NAME.start, then each call by a line.
  */
-#include "lists.h"
-#include "next.h"
-#include "pages.h"
+#include "model/lists.h"
+#include "model/modes.h"
+#include "model/next.h"
+#include "model/pages.h"
 
-#define DATA_MAX 4152
-
-/* The most numbers that a call is given, and that one stores. */
+/* The most strings and numbers that a call is given, and the most numbers that one stores. */
+#define STRINGS 8
 #define NUMBERS 4
 #define STORED PAGE_FIELDS
 
@@ -22,120 +22,85 @@ static struct bytes lent(size_t room)
     return b;
 }
 
-static int block(int encrypt, struct bytes *w)
-{
-    if (w[0].len != 32 || w[1].len != 16)
-        return 2;
-    aes_block(encrypt, w[0].at, w[1].at);
-    return 0;
-}
-
-static int mode_encrypt(int ccm, struct bytes *w, struct bytes out)
-{
-    unsigned char tag[16];
-    if (w[0].len != 32 || w[1].len != 12)
-        return 2;
-    if (w[2].len > DATA_MAX || w[3].len > PLAIN_MAX)
-        return 4;
-    if (out.len < w[3].len + 16)
-        return 5;
-    aead_encrypt(ccm, w[0], w[1], w[2], w[3], out.at, tag);
-    memcpy(out.at + w[3].len, tag, 16);
-    return 0;
-}
-
-static int mode_decrypt(int ccm, struct bytes *w, struct bytes out)
-{
-    int right;
-    unsigned char *plain;
-    if (w[0].len != 32 || w[1].len != 12 || w[4].len != 16)
-        return 2;
-    if (w[2].len > DATA_MAX || w[3].len > PLAIN_MAX)
-        return 4;
-    if (out.len < w[3].len)
-        return 5;
-    plain = malloc(w[3].len + 16);
-    right = aead_decrypt(ccm, w[0], w[1], w[2], w[3], w[4].at, plain);
-    if (right)
-        memcpy(out.at, plain, w[3].len);
-    free(plain);
-    return right ? 0 : 9;
-}
-
-static int wrap(struct bytes *w, struct bytes out)
-{
-    if (w[0].len != 32 || w[1].len != 32)
-        return 2;
-    if (out.len < 40)
-        return 5;
-    must(key_wrap(1, w[0].at, w[1].at, out.at), "wrap");
-    return 0;
-}
-
-static int unwrap(struct bytes *w, struct bytes out)
-{
-    if (w[0].len != 32)
-        return 2;
-    if (out.len < 32)
-        return 5;
-    if (w[1].len != 40)
-        return 8;
-    return key_wrap(0, w[0].at, w[1].at, out.at) ? 0 : 9;
-}
-
-/* The calls in the order of the table below. */
-static int made(int call, struct bytes *w, const unsigned long long *n, struct bytes out, unsigned long long *stored,
-                struct session *session)
-{
-    switch (call) {
-    case 0: case 1: return block(call == 0, w);
-    case 2: case 4: return mode_encrypt(call == 2, w, out);
-    case 3: case 5: return mode_decrypt(call == 3, w, out);
-    case 6: return wrap(w, out);
-    case 7: return unwrap(w, out);
-    case 8: return table_bad(w[0]);
-    case 9: return find(w, stored);
-    case 10: return seal(w, out);
-    case 11: return open_record(w, out, stored);
-    case 12: return record_check(w[0]);
-    case 13: return list_check(w[0], n[0] != 0, n[1] != 0, stored);
-    case 14: return list_step(w[0], n[0] != 0, n[1] != 0, n[2], stored);
-    case 15: return label_check(w[0], stored);
-    case 16: return page_read(w[0], stored);
-    case 17: return page_load(w, out, stored);
-    case 18: return session_start(session, n[0], n[1]);
-    case 19: return session_issue(session, out);
-    case 20: return seal_next(session, w, out);
-    }
-    return -1;
-}
-
-/* The calls whose line is a session's life. */
-#define ISSUES 19
-#define SEALS_NEXT 20
-
-/*
- * How many byte strings and numbers a call takes, what its answer shows, the output lent (o), the block (b), the session
- * (i), and how many numbers it stores.
- */
-static const struct {
-    const char *name;
-    int strings, numbers;
-    const char *shows;
-    int stores;
-} calls[] = {
-    { "aes256_encrypt", 2, 0, "b", 0 }, { "aes256_decrypt", 2, 0, "b", 0 }, { "ccm_encrypt", 4, 0, "o", 0 },
-    { "ccm_decrypt", 5, 0, "o", 0 }, { "gcm_encrypt", 4, 0, "o", 0 }, { "gcm_decrypt", 5, 0, "o", 0 },
-    { "wrap", 2, 0, "o", 0 }, { "unwrap", 2, 0, "o", 0 }, { "table_check", 1, 0, "", 0 }, { "find", 2, 0, "", 1 },
-    { "seal", 5, 0, "o", 0 }, { "open", 3, 0, "o", 1 }, { "record_check", 1, 0, "", 0 }, { "list_check", 1, 2, "", 1 },
-    { "list_step", 1, 3, "", 2 }, { "label_check", 1, 0, "", 1 }, { "page_read", 1, 0, "", PAGE_FIELDS },
-    { "page_load", 2, 0, "o", PAGE_FIELDS }, { "session_start", 0, 2, "i", 0 }, { "session_issue", 0, 3, "oi", 0 },
-    { "seal_next", 4, 3, "oi", 0 },
+/* What a call is lent: strings, numbers, an output, room for the numbers it stores, and a session. */
+struct asked {
+    struct bytes *w;
+    const unsigned long long *n;
+    struct bytes out;
+    unsigned long long *stored;
+    struct session *session;
 };
 
-static int shown(int call, char what)
+static int call_aes256_encrypt(struct asked a) { return block(1, 1, a.w); }
+static int call_aes256_decrypt(struct asked a) { return block(0, 1, a.w); }
+static int call_aes256_encrypt_1000(struct asked a) { return block(1, 1000, a.w); }
+static int call_aes256_decrypt_1000(struct asked a) { return block(0, 1000, a.w); }
+static int call_ccm_encrypt(struct asked a) { return mode_encrypt(1, a.w, a.out); }
+static int call_ccm_decrypt(struct asked a) { return mode_decrypt(1, a.w, a.out); }
+static int call_gcm_encrypt(struct asked a) { return mode_encrypt(0, a.w, a.out); }
+static int call_gcm_decrypt(struct asked a) { return mode_decrypt(0, a.w, a.out); }
+static int call_wrap(struct asked a) { return wrap(a.w, a.out); }
+static int call_unwrap(struct asked a) { return unwrap(a.w, a.out); }
+static int call_table_check(struct asked a) { return table_bad(a.w[0]); }
+static int call_find(struct asked a) { return find(a.w, a.stored); }
+static int call_seal(struct asked a) { return seal(a.w, a.out); }
+static int call_open(struct asked a) { return open_record(a.w, a.out, a.stored); }
+static int call_record_check(struct asked a) { return record_check(a.w[0]); }
+static int call_list_check(struct asked a) { return list_check(a.w[0], a.n[0] != 0, a.n[1] != 0, a.stored); }
+static int call_list_step(struct asked a) { return list_step(a.w[0], a.n[0] != 0, a.n[1] != 0, a.n[2], a.stored); }
+static int call_label_check(struct asked a) { return label_check(a.w[0], a.stored); }
+static int call_page_read(struct asked a) { return page_read(a.w[0], a.stored); }
+static int call_page_load(struct asked a) { return page_load(a.w, a.out, a.stored); }
+static int call_session_start(struct asked a) { return session_start(a.session, a.n[0], a.n[1]); }
+static int call_session_issue(struct asked a) { return session_issue(a.session, a.out); }
+static int call_seal_next(struct asked a) { return seal_next(a.session, a.w, a.out); }
+
+/* What an answer shows, each or none: the output that was lent, the block, the session. */
+enum { NOTHING = 0, OUTPUT = 1, BLOCK = 2, SESSION = 4 };
+
+/* How many strings and numbers a call takes, what its answer shows, how many numbers it stores, and the call. */
+static const struct call {
+    const char *name;
+    int strings, numbers, shows, stores;
+    int (*make)(struct asked);
+} calls[] = {
+    { "aes256_encrypt", 2, 0, BLOCK, 0, call_aes256_encrypt },
+    { "aes256_decrypt", 2, 0, BLOCK, 0, call_aes256_decrypt },
+    { "aes256_encrypt_1000", 2, 0, BLOCK, 0, call_aes256_encrypt_1000 },
+    { "aes256_decrypt_1000", 2, 0, BLOCK, 0, call_aes256_decrypt_1000 },
+    { "ccm_encrypt", 4, 0, OUTPUT, 0, call_ccm_encrypt },
+    { "ccm_decrypt", 5, 0, OUTPUT, 0, call_ccm_decrypt },
+    { "gcm_encrypt", 4, 0, OUTPUT, 0, call_gcm_encrypt },
+    { "gcm_decrypt", 5, 0, OUTPUT, 0, call_gcm_decrypt },
+    { "wrap", 2, 0, OUTPUT, 0, call_wrap },
+    { "unwrap", 2, 0, OUTPUT, 0, call_unwrap },
+    { "table_check", 1, 0, NOTHING, 0, call_table_check },
+    { "find", 2, 0, NOTHING, 1, call_find },
+    { "seal", 5, 0, OUTPUT, 0, call_seal },
+    { "open", 3, 0, OUTPUT, 1, call_open },
+    { "record_check", 1, 0, NOTHING, 0, call_record_check },
+    { "list_check", 1, 2, NOTHING, 1, call_list_check },
+    { "list_step", 1, 3, NOTHING, 2, call_list_step },
+    { "label_check", 1, 0, NOTHING, 1, call_label_check },
+    { "page_read", 1, 0, NOTHING, PAGE_FIELDS, call_page_read },
+    { "page_load", 2, 0, OUTPUT, PAGE_FIELDS, call_page_load },
+    { "session_start", 0, 2, SESSION, 0, call_session_start },
+    { "session_issue", 0, 3, OUTPUT | SESSION, 0, call_session_issue },
+    { "seal_next", 4, 3, OUTPUT | SESSION, 0, call_seal_next },
+};
+
+static const struct call *call_named(const char *name)
 {
-    return strchr(calls[call].shows, what) != NULL;
+    for (size_t i = 0; i < sizeof calls / sizeof calls[0]; i++)
+        if (strcmp(name, calls[i].name) == 0)
+            return &calls[i];
+    return NULL;
+}
+
+/* Whether the call's line has a session's life. */
+static int lives(const struct call *call)
+{
+    return call->make == call_session_issue || call->make == call_seal_next;
 }
 
 static void put_session(const struct session *s)
@@ -145,23 +110,49 @@ static void put_session(const struct session *s)
 }
 
 /* The answer to one call; the session is the line's. */
-static void answer(const char *name, int call, struct bytes *w, const unsigned long long *numbers, size_t room,
-                   struct session *session)
+static void answer(const char *name, const struct call *call, struct bytes *w, const unsigned long long *numbers,
+                   size_t room, struct session *session)
 {
     struct bytes out = lent(room);
     unsigned long long stored[STORED];
     memset(stored, 0xa5, sizeof stored);
-    printf("%s %d", name, made(call, w, numbers, out, stored, session));
-    if (shown(call, 'o'))
+    printf("%s %d", name, call->make((struct asked){ w, numbers, out, stored, session }));
+    if (call->shows & OUTPUT)
         put_hex(out.at, out.len);
-    if (shown(call, 'b'))
+    if (call->shows & BLOCK)
         put_hex(w[1].at, w[1].len);
-    if (shown(call, 'i'))
+    if (call->shows & SESSION)
         put_session(session);
-    for (int i = 0; i < calls[call].stores; i++)
+    for (int i = 0; i < call->stores; i++)
         printf(" %016llx", stored[i]);
     putchar('\n');
     free(out.at);
+}
+
+/* The answers to a line's call, one for each of its rooms. */
+static void answers(const char *name, const struct call *call, char **words)
+{
+    struct bytes w[STRINGS];
+    unsigned long long numbers[NUMBERS];
+    struct session session;
+    for (int i = 0; i < call->strings; i++)
+        w[i] = from_hex(words[i]);
+    for (int i = 0; i < call->numbers; i++)
+        numbers[i] = strtoull(words[call->strings + i], NULL, 10);
+    memset(&session, 0xa5, sizeof session);
+    if (lives(call)) {
+        printf("%s.start %d", name, session_start(&session, numbers[0], numbers[1]));
+        put_session(&session);
+        putchar('\n');
+        session.spent = (unsigned char)numbers[2];
+    }
+    if (call->shows & OUTPUT)
+        for (char *r = strtok(words[call->strings + call->numbers], ","); r; r = strtok(NULL, ","))
+            answer(name, call, w, numbers, strtoul(r, NULL, 10), &session);
+    else
+        answer(name, call, w, numbers, 0, &session);
+    for (int i = 0; i < call->strings; i++)
+        free(w[i].at);
 }
 
 int main(void)
@@ -169,36 +160,14 @@ int main(void)
     char *line = NULL, *words[WORDS];
     size_t room = 0;
     while (next_line(stdin, &line, &room)) {
-        int n = cut_words(line, words), at = -1, strings;
-        struct bytes w[8];
-        struct session session;
-        unsigned long long numbers[NUMBERS];
+        int n = cut_words(line, words);
+        const struct call *call;
         if (n == 0 || words[0][0] == '#')
             continue;
-        for (int i = 0; i < (int)(sizeof calls / sizeof calls[0]); i++)
-            if (n > 1 && strcmp(words[1], calls[i].name) == 0)
-                at = i;
-        if (at < 0 || n != 2 + calls[at].strings + calls[at].numbers + shown(at, 'o'))
+        call = n > 1 ? call_named(words[1]) : NULL;
+        if (!call || n != 2 + call->strings + call->numbers + (call->shows & OUTPUT ? 1 : 0))
             fail("not a call", words[0]);
-        strings = calls[at].strings;
-        for (int i = 0; i < strings; i++)
-            w[i] = from_hex(words[2 + i]);
-        for (int i = 0; i < calls[at].numbers; i++)
-            numbers[i] = strtoull(words[2 + strings + i], NULL, 10);
-        memset(&session, 0xa5, sizeof session);
-        if (at == ISSUES || at == SEALS_NEXT) {
-            printf("%s.start %d", words[0], session_start(&session, numbers[0], numbers[1]));
-            put_session(&session);
-            putchar('\n');
-            session.spent = (unsigned char)numbers[2];
-        }
-        if (shown(at, 'o'))
-            for (char *r = strtok(words[n - 1], ","); r; r = strtok(NULL, ","))
-                answer(words[0], at, w, numbers, strtoul(r, NULL, 10), &session);
-        else
-            answer(words[0], at, w, numbers, 0, &session);
-        for (int i = 0; i < strings; i++)
-            free(w[i].at);
+        answers(words[0], call, words + 2);
     }
     free(line);
     return 0;

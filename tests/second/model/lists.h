@@ -2,7 +2,7 @@
 #ifndef LISTS_H
 #define LISTS_H
 
-#include "bytes.h"
+#include "../bytes.h"
 
 #define DESCRIPTOR_HEAD 4
 #define LABEL_MAX 4096

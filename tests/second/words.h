@@ -2,10 +2,9 @@
  * Lines of words, read and written: one line a call, words with one space between, byte strings in hex, "-" for
  * an empty one. Written for the second program, which shares nothing with the unit or its tests.
  */
-#ifndef LINES_H
-#define LINES_H
+#ifndef WORDS_H
+#define WORDS_H
 
-#include <ctype.h>
 #include <stdio.h>
 #include <stdlib.h>
 #include <string.h>
@@ -43,6 +42,16 @@ static inline void fail(const char *what, const char *about)
     exit(2);
 }
 
+/* The value of a hexadecimal digit, or -1. */
+static inline int digit_value(char c)
+{
+    if (c >= '0' && c <= '9')
+        return c - '0';
+    if (c >= 'a' && c <= 'f')
+        return c - 'a' + 10;
+    return c >= 'A' && c <= 'F' ? c - 'A' + 10 : -1;
+}
+
 /* A word in hex as bytes; there is always room for one more, so that `at` is never null. */
 static inline struct bytes from_hex(const char *word)
 {
@@ -55,27 +64,28 @@ static inline struct bytes from_hex(const char *word)
     if (!b.at)
         fail("no memory", "from_hex");
     for (size_t i = 0; i < b.len; i++) {
-        unsigned value = 0;
-        for (int j = 0; j < 2; j++) {
-            char c = word[2 * i + j];
-            if (!isxdigit((unsigned char)c))
-                fail("no hex", word);
-            value = 16 * value + (unsigned)(isdigit((unsigned char)c) ? c - '0' : tolower(c) - 'a' + 10);
-        }
-        b.at[i] = (unsigned char)value;
+        int high = digit_value(word[2 * i]), low = digit_value(word[2 * i + 1]);
+        if (high < 0 || low < 0)
+            fail("no hex", word);
+        b.at[i] = (unsigned char)(16 * high + low);
     }
     return b;
 }
 
+/* A space and the digits, or `-` for none; many are written at once. */
 static inline void put_hex(const unsigned char *at, size_t len)
 {
     static const char digits[] = "0123456789abcdef";
+    char some[4096];
     putchar(' ');
     if (len == 0)
         putchar('-');
-    for (size_t i = 0; i < len; i++) {
-        putchar(digits[at[i] / 16]);
-        putchar(digits[at[i] % 16]);
+    while (len > 0) {
+        size_t count = len < sizeof some / 2 ? len : sizeof some / 2;
+        for (size_t i = 0; i < count; i++)
+            some[2 * i] = digits[at[i] / 16], some[2 * i + 1] = digits[at[i] % 16];
+        fwrite(some, 1, 2 * count, stdout);
+        at += count, len -= count;
     }
 }
 

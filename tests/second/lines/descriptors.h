@@ -5,7 +5,7 @@
 #ifndef DESCRIPTORS_H
 #define DESCRIPTORS_H
 
-#include "bytes.h"
+#include "../bytes.h"
 #include "calls.h"
 
 static inline struct bytes descriptor(unsigned type, struct bytes contents)

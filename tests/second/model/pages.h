@@ -2,7 +2,7 @@
 #ifndef PAGES_H
 #define PAGES_H
 
-#include "ciphers.h"
+#include "../ciphers.h"
 #include "keytable.h"
 #include "lists.h"
 

@@ -2,9 +2,8 @@
 #ifndef MADE_CIPHERS_H
 #define MADE_CIPHERS_H
 
+#include "../model/modes.h"
 #include "draws.h"
-
-#define MODE_DATA_MAX 4152
 
 /* One of these strings, or now and then two, with another length. */
 static inline void resize(struct bytes **of, size_t count)
@@ -26,7 +25,7 @@ static inline void any_block(void)
 static inline void any_encryption(void)
 {
     unsigned flaws = FLAWS(2, 4, 5);
-    struct lengths l = any_lengths(MODE_DATA_MAX, HAS(flaws, 4));
+    struct lengths l = any_lengths(DATA_MAX, HAS(flaws, 4));
     struct bytes w[] = { some(32), some(12), some(l.data), some(l.text) }, *of[] = { &w[0], &w[1] };
     if (HAS(flaws, 2))
         resize(of, COUNT(of));
@@ -38,7 +37,7 @@ static inline void any_decryption(void)
 {
     unsigned flaws = FLAWS(2, 4, 5, 9);
     int ccm = one_in(2);
-    struct lengths l = any_lengths(MODE_DATA_MAX, HAS(flaws, 4));
+    struct lengths l = any_lengths(DATA_MAX, HAS(flaws, 4));
     struct bytes w[] = { some(32), some(12), some(l.data), some(l.text), some(16) }, *of[] = { &w[0], &w[1], &w[4] };
     struct bytes *wrong = one_in(2) ? &w[4] : &w[below(5)];
     aead_encrypt(ccm, w[0], w[1], w[2], some(l.text), w[3].at, w[4].at);

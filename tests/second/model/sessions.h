@@ -2,7 +2,7 @@
 #ifndef SESSIONS_H
 #define SESSIONS_H
 
-#include "bytes.h"
+#include "../bytes.h"
 
 #define IV_LENGTH 12
 

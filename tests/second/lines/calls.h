@@ -3,7 +3,7 @@
 #define CALLS_H
 
 #include <stdint.h>
-#include "lines.h"
+#include "../words.h"
 
 #define COUNT(a) (sizeof(a) / sizeof((a)[0]))
 

@@ -2,7 +2,7 @@
  * Lines of calls on key tables: of 0 to 66 rows; names that begin alike, or differ in a zero byte at the end; every
  * byte of a table changed; totals, counts, offsets and row lengths that do not fit; two rows of one name.
  */
-#include "lines.h"
+#include "../words.h"
 
 static unsigned long number;
 

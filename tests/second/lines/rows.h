@@ -6,7 +6,7 @@
 #define ROWS_H
 
 #include "calls.h"
-#include "records.h"
+#include "../model/records.h"
 
 struct row {
     struct bytes name, key;

@@ -5,8 +5,8 @@
 #ifndef RECORDS_H
 #define RECORDS_H
 
-#include "bytes.h"
-#include "ciphers.h"
+#include "../bytes.h"
+#include "../ciphers.h"
 #include "keytable.h"
 
 #define PLAIN_MAX 1048576

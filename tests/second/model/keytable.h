@@ -2,7 +2,7 @@
 #ifndef KEYTABLE_H
 #define KEYTABLE_H
 
-#include "lines.h"
+#include "../words.h"
 
 #define NAME_LONGEST 32
 

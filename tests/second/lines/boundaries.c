@@ -1,10 +1,11 @@
 /*
  * Lines of calls at the boundaries of document 01: each boundary length of text and of associated data, in both
  * modes and both ways; every single-bit change of a tag, and many of ciphertexts, IVs and associated data; wrong
- * lengths of every string; outputs of exact, longer and shorter room. Inputs come from a seed, which is printed.
+ * lengths of every string; outputs of exact, longer and shorter room; the block cipher with keys and blocks of many
+ * lengths. Inputs come from a seed, which is printed.
  */
 #include "calls.h"
-#include "ciphers.h"
+#include "../ciphers.h"
 
 static const size_t texts[] = { 0, 1, 15, 16, 17, 31, 32, 33, 47, 48, 49, 63, 64, 65, 4096, 65519, 65520, 65521, 65522,
     65523, 65524, 65525, 65526, 65527, 65528, 65529, 65530, 65531, 65532, 65533, 65534, 65535, 65536, 65537, 1048575,
@@ -84,6 +85,18 @@ static void wraps(void)
     }
 }
 
+/* The block cipher with every two of these lengths of key and block. */
+static void blocks(const char *name)
+{
+    static const size_t lens[] = { 0, 1, 8, 15, 16, 17, 24, 31, 32, 33, 64, 255, 4096 };
+    for (size_t i = 0; i < COUNT(lens); i++)
+        for (size_t j = 0; j < COUNT(lens); j++) {
+            struct bytes w[] = { some(lens[i]), some(lens[j]) };
+            call(name, w, 2, NO_OUTPUT);
+            free(w[0].at), free(w[1].at);
+        }
+}
+
 int main(int argc, char **argv)
 {
     start_from(argc > 1 ? argv[1] : "1");
@@ -102,6 +115,10 @@ int main(int argc, char **argv)
         lengths(encrypts[ccm], e, 4, 60);
         lengths(decrypts[ccm], d, 5, 40);
     }
+    blocks("aes256_encrypt");
+    blocks("aes256_decrypt");
+    blocks("aes256_encrypt_1000");
+    blocks("aes256_decrypt_1000");
     wraps();
     static const size_t w[] = { 32, 32 }, u[] = { 32, 40 };
     lengths("wrap", w, 2, 44);

@@ -6,7 +6,7 @@
 #define PAGE_PARTS_H
 
 #include "descriptors.h"
-#include "pages.h"
+#include "../model/pages.h"
 #include "rows.h"
 
 /* The key-encrypting key's row, then one of each mode with a name long enough for a reference; and their table. */

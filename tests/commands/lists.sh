@@ -1,0 +1,125 @@
+# shellcheck shell=bash disable=SC2034,SC2086,SC2154
+# Sourced by tests/console: the descriptors of labels and of key pages, a line each after their count: type, length and bytes in capital
+# digits, - for no bytes. Reserved ones are not shown.
+
+# ---- labels
+
+gives "label" 0 label examples/label.bin
+input=examples/label.bin
+gives "label on standard input" 0 label examples/label.bin
+input=
+
+# shows NAME COMMAND FILE: the text is what stands on standard input.
+shows() {
+    cat >"$room/wanted"
+    want 0
+    spadeswirl "$2" "$3" </dev/null
+    hold "$1" 0
+}
+# descriptor TYPE HEX ..: its bytes.
+descriptor() {
+    local type=$1 digits
+    shift
+    digits=$(tr -d ' ' <<<"$*")
+    hex "$type" 00 "$(printf '%04x' $((${#digits} / 2)))" "$digits"
+}
+
+# a label whose descriptor 04h has so many bytes of contents
+label() { hex 00 00 00 00 00 00 01 00 00 00 03 00 00 00 04 00; hex "$(printf '%04x' "$1")"; zeros "$1"; }
+label 0 >"$room/least"
+label 4078 >"$room/label4096"
+label 4079 >"$room/label4097"
+zeros 2 >"$room/zeros"
+gives "document 01's label of 18 bytes" 0 label "$room/least"
+shows "its four descriptors" label "$room/least" <<'TEXT'
+descriptors 4
+00 0000 -
+01 0000 -
+03 0000 -
+04 0000 -
+TEXT
+{ cat "$room/least"; descriptor 05 01; descriptor BF AB CD; descriptor C0 01 02 03; descriptor FF AB CD EF; } >"$room/types"
+gives "a label with reserved types" 0 label "$room/types"
+shows "those that are not reserved" label "$room/types" <<'TEXT'
+descriptors 6
+00 0000 -
+01 0000 -
+03 0000 -
+04 0000 -
+C0 0003 010203
+FF 0003 ABCDEF
+TEXT
+gives "two zero bytes alone" 2 label "$room/zeros"
+gives "no label" 2 label /dev/null
+gives "a label of 4,096 bytes" 0 label "$room/label4096"
+gives "a label of 4,097 bytes" 4 label "$room/label4097"
+{ label 65535; hex C0 00 00 09; zeros 9; } >"$room/label65566"
+gives "a label of 65,566 bytes" 4 label "$room/label65566"
+head -c 65565 "$room/label65566" >"$room/cut"
+gives "the same, cut within its last descriptor" 2 label "$room/cut"
+
+# ---- key pages
+
+gives "descriptors, none" 0 descriptors examples/pages/wrapped.bin
+gives "descriptors, and one that is reserved" 0 descriptors examples/pages/plain.bin
+input=examples/pages/plain.bin
+gives "descriptors on standard input" 0 descriptors examples/pages/plain.bin
+input=
+shows "no descriptor" descriptors examples/pages/wrapped.bin <<'TEXT'
+descriptors 0
+TEXT
+shows "two of a page's three" descriptors examples/pages/plain.bin <<'TEXT'
+descriptors 2
+00 0001 07
+C0 0002 0809
+TEXT
+# page FILE: a page of format 00h with the descriptors of a file
+page() { hex 00 10 "$(printf '%04x' $((48 + $(wc -c <"$1"))))" 00 00 00 00 01 00; zeros 8; hex 00 20; zeros 32; cat "$1"; }
+{ descriptor 03 FE; descriptor 04 01; descriptor BF 01; descriptor C0; } >"$room/list"
+page "$room/list" >"$room/page"
+shows "a page's types" descriptors "$room/page" <<'TEXT'
+descriptors 2
+03 0001 FE
+C0 0000 -
+TEXT
+hex "$(printf '%02x000000' {0..255})" >"$room/list"
+page "$room/list" >"$room/page"
+gives "a page with every type" 0 descriptors "$room/page"
+[ "$(sed -n '1p; 6p; $p' "$room/wrote" | xargs)" = "descriptors 68 C0 0000 - FF 0000 -" ]
+test_that $? "a page with every type: $(sed -n '1p; 6p; $p' "$room/wrote" | xargs)"
+for n in 4040 4041 65483; do
+    { hex C0 00; hex "$(printf '%04x' "$n")"; some "$n"; } >"$room/list"
+    page "$room/list" >"$room/page$n"
+done
+gives "descriptors of a page of 4,096 bytes" 0 descriptors "$room/page4040"
+gives "descriptors of a page of 4,097 bytes" 4 descriptors "$room/page4041"
+gives "descriptors of a page of 65,539 bytes" 4 descriptors "$room/page65483"
+head -c 65538 "$room/page65483" >"$room/cut"
+gives "the same, a byte short" 2 descriptors "$room/cut"
+{ cat "$room/page65483"; zeros 1; } >"$room/page65540"
+gives "the same, and a byte more" 2 descriptors "$room/page65540"
+gives "descriptors of a page that is not permitted" 3 descriptors examples/pages/refused.bin
+gives "descriptors of an empty file" 2 descriptors /dev/null
+
+# ---- labels and pages of the second program's lines, by the program alone
+
+# beside COMMAND CALL WRITER: the strings of a call that a writer of lines gives, beside the second program on files.
+beside() {
+    local name digits number
+    "$folder/$3" "$seed" >"$room/lines" || give_up "tests/second/lines/$3.c did not write its lines"
+    second_answers "$room/lines" "$room/answers"
+    some_of "$2" 50 20 "$room/lines" "$room/answers" >"$room/some"
+    [ "$(wc -l <"$room/some")" -ge 80 ]
+    test_that $? "$1: only $(wc -l <"$room/some") of the second program's lines"
+    while read -r name digits _; do
+        hex "$digits" >"$room/file"
+        "$folder/files" "$1" "$room/file" >"$room/wanted" 2>"$room/number"
+        unit console "$1" "$room/file" >"$room/wrote" 2>"$room/said" </dev/null
+        status=$?
+        read -r number <"$room/number"
+        want "$number"
+        hold "$1, $name" 0
+    done <"$room/some"
+}
+beside label label_check labels
+beside descriptors page_read pages

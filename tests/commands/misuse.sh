@@ -1,0 +1,77 @@
+# shellcheck shell=bash disable=SC2034,SC2086,SC2154
+# Sourced by tests/console: help, and words that are no command, or not of one.
+
+# ---- help
+
+# helps NAME WORD ..: status 0, nothing on standard error, and the usage first.
+helps() {
+    local name=$1 first=
+    shift
+    spadeswirl help "$@" </dev/null
+    IFS= read -r first <"$room/wrote"
+    [ "$status" = 0 ] && [ ! -s "$room/said" ] && [[ $first = "usage: ./spadeswirl "* ]]
+    test_that $? "$name: status $status; wrote $first; said $(head -n 2 "$room/said")"
+}
+helps "help"
+commands=$(sed -nE 's/^(usage:|      ) \.\/spadeswirl ([a-z-]+).*/\2/p' "$room/wrote" | grep -vx help | sort | xargs)
+[ "$commands" = "check-table descriptors label list-page open seal" ]
+test_that $? "help lists these commands: $commands"
+for command in $commands; do
+    helps "help $command" $command
+    grep -q "^usage: \./spadeswirl $command " "$room/wrote"
+    test_that $? "help $command: its usage is of another command"
+done
+misuse "help on what is no command" help unseal
+misuse "help on a command of the program alone" help meaning
+misuse "help on two commands" help seal open
+
+# ---- what is no command, or has words too few or too many, is told the usage
+
+for words in "" "list" "list-page one two"; do
+    # shellcheck disable=SC2086
+    misuse "arguments '$words'" $words
+    grep -q '^usage: ' "$room/said"
+    test_that $? "arguments '$words': no usage"
+done
+misuse "no command"
+misuse "another command" unseal $table $record
+misuse "a command of the program alone" meaning 06
+misuse "seal, words too few" seal $table $gcm $iv
+misuse "seal, words too many" seal $table $gcm $iv $plain $data $data
+misuse "open, words too few" open $table
+misuse "open, words too many" open $table $record $data $data
+misuse "check-table, words too few" check-table
+misuse "check-table, words too many" check-table $table $table
+misuse "descriptors, words too few" descriptors
+misuse "descriptors, words too many" descriptors examples/pages/plain.bin examples/pages/plain.bin
+misuse "label, words too few" label
+misuse "label, words too many" label examples/label.bin examples/label.bin
+misuse "list-page, words too many" list-page examples/pages/plain.bin examples/pages/plain.bin
+misuse "a name that is no hex" seal $table TAPE1 $iv $plain
+misuse "a name with an odd digit" seal $table ${gcm}0 $iv $plain
+misuse "an IV that is no hex" seal $table $gcm 00000001000000000000000g $plain
+misuse "an IV with a space" seal $table $gcm "00000001 00000000000001" $plain
+misuse "a name on standard input" seal $table - $iv $plain
+misuse "two files on standard input" open - -
+misuse "no such table" check-table "$room/none"
+misuse "no such record" open $table "$room/none" $data
+misuse "no such associated data" open $table $record "$room/none"
+misuse "no such data" seal $table $gcm $iv "$room/none"
+misuse "no such label" label "$room/none"
+misuse "no such page" descriptors "$room/none"
+misuse "no such page" list-page "$room/none"
+misuse "a file with a number for its name" label "6: no row of that name"
+misuse "an empty file name" label ""
+misuse "a file name of 5,000 bytes" label "$(printf '%05000d' 0)"
+for words in "check-table $room" "open $table $room" "label $room" "descriptors $room" "list-page $room" "seal $table $gcm $iv $plain $room"; do
+    # shellcheck disable=SC2086
+    misuse "a folder: ${words%% *}" $words
+done
+if [ -w /dev/full ]; then
+    ./spadeswirl open $table $record $data >/dev/full 2>"$room/said"
+    status=$?
+    : >"$room/wrote"
+    : >"$room/wanted"
+    echo "cannot write: No space left on device" >"$room/wanted-said"
+    hold "a full disk" 2
+fi

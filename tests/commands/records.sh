@@ -1,0 +1,140 @@
+# shellcheck shell=bash disable=SC2034,SC2086,SC2154
+# Sourced by tests/console: sealing, opening, and key tables.
+
+# ---- the files of examples/
+
+"$folder/files" seal $table $gcm $iv $plain $data >"$room/gcm" 2>"$room/number"
+same "examples/records/gcm.bin is the second program's" "$room/gcm" examples/records/gcm.bin
+"$folder/files" seal $table $ccm 000000010000000000000002 $plain $data >"$room/ccm" 2>"$room/number"
+same "examples/records/ccm.bin is the second program's" "$room/ccm" examples/records/ccm.bin
+for file in table:$table record:$record associated:$data; do
+    same "crates/console/data/${file%%:*}" "crates/console/data/${file%%:*}" "${file#*:}"
+done
+same "crates/console/stdout" crates/console/stdout $plain
+
+gives "seal by GCM" 0 seal $table $gcm $iv $plain $data
+same "the record of examples/" "$room/wrote" examples/records/gcm.bin
+gives "seal by CCM" 0 seal $table $ccm 000000010000000000000002 $plain $data
+same "the record of examples/" "$room/wrote" examples/records/ccm.bin
+gives "open by GCM" 0 open $table examples/records/gcm.bin $data
+same "the plaintext of examples/" "$room/wrote" $plain
+gives "open by CCM" 0 open $table examples/records/ccm.bin $data
+same "the plaintext of examples/" "$room/wrote" $plain
+gives "open a damaged record" 9 open $table examples/records/damaged.bin $data
+gives "check-table" 0 check-table $table
+
+# ---- there and back, at lengths about the blocks, with data of any bytes and with lines and zero bytes
+
+for n in 0 1 15 16 17 31 33 255 4096 65537 1048575 1048576; do
+    some $n >"$room/plain"
+    for name in $gcm $ccm; do
+        gives "seal $n bytes by $name" 0 seal $table $name $iv "$room/plain"
+        cp "$room/wrote" "$room/record"
+        gives "open $n bytes by $name" 0 open $table "$room/record"
+        same "$n bytes there and back by $name" "$room/wrote" "$room/plain"
+    done
+done
+printf '\n\n6: no row of that name\n\0\0\n-\n' >"$room/lines"
+gives "lines and zero bytes" 0 seal $table $gcm $iv "$room/lines" "$room/lines"
+cp "$room/wrote" "$room/record"
+gives "lines and zero bytes, opened" 0 open $table "$room/record" "$room/lines"
+same "lines and zero bytes, there and back" "$room/wrote" "$room/lines"
+gives "an IV in small digits" 0 seal $table $gcm abcdef0123456789abcdef01 $plain
+gives "an IV in capital digits" 0 seal $table $gcm ABCDEF0123456789ABCDEF01 $plain
+
+# ---- standard input
+
+for word in $table $plain $data; do
+    input=$word
+    gives "seal, $word on standard input" 0 seal $table $gcm $iv $plain $data
+done
+for word in $table examples/records/ccm.bin $data; do
+    input=$word
+    gives "open, $word on standard input" 0 open $table examples/records/ccm.bin $data
+done
+input=$table
+gives "check-table on standard input" 0 check-table $table
+input=
+spadeswirl open $table - <examples/records/damaged.bin
+want 9
+hold "a damaged record on standard input" 1
+spadeswirl open $table - $data < <(head -c 50 $record; sleep 0.2; tail -c +51 $record)
+cp $plain "$room/wanted"
+: >"$room/wanted-said"
+hold "a record that comes in two parts" 0
+
+# ---- tables: none, the most and one more, broken
+
+rows() { # COUNT, each with a name of 32 bytes and the use 02h
+    local i
+    hex 00 01 "$(printf '%04x' "$1")" 00 08 00 48
+    for ((i = 0; i < $1; i++)); do
+        hex 20 02 00 00 00 00 00 00 "$(printf '%064x' "$i")" "$(printf '%064x' $((i + 7)))"
+    done
+}
+rows 0 >"$room/empty"
+rows 64 >"$room/full"
+rows 65 >"$room/rows65"
+{ cat "$room/full"; zeros 1; } >"$room/longer"
+with $table 9 04 >"$room/broken"
+gives "a table of no rows" 0 check-table "$room/empty"
+gives "a table of 64 rows" 0 check-table "$room/full"
+gives "a table of 65 rows" 1 check-table "$room/rows65"
+gives "64 rows and a byte more" 1 check-table "$room/longer"
+gives "a use that is none" 1 check-table "$room/broken"
+gives "an empty file for a table" 1 check-table /dev/null
+
+# ---- sealing refused
+
+last=$(printf '%064x' 63)
+some 1048577 >"$room/plain1"
+some 4096 >"$room/data"
+some 4097 >"$room/data1"
+gives "seal by a broken table" 1 seal "$room/broken" $gcm $iv $plain
+gives "seal by a table that is too long" 1 seal "$room/longer" $last $iv $plain
+gives "seal, an IV of 11 bytes" 2 seal $table $gcm ${iv%??} $plain
+gives "seal, an IV of 13 bytes" 2 seal $table $gcm ${iv}00 $plain
+gives "seal, an IV of 2,100 bytes" 2 seal $table $gcm "$(printf '%04200d' 0)" $plain
+gives "seal, no name" 2 seal $table "" $iv $plain
+gives "seal, a name of 33 bytes" 4 seal $table "${last}00" $iv $plain
+gives "seal, a name of 3,000 bytes" 4 seal $table "$(printf '%06000d' 0)" $iv $plain
+gives "seal, 1,048,577 bytes" 4 seal $table $gcm $iv "$room/plain1"
+gives "seal, 4,096 bytes of associated data" 0 seal $table $gcm $iv $plain "$room/data"
+gives "seal, 4,097 bytes of associated data" 4 seal $table $gcm $iv $plain "$room/data1"
+gives "seal by a name of no row" 6 seal $table 5441504533 $iv $plain
+gives "seal by the front of a name" 6 seal $table ${gcm%??} $iv $plain
+gives "seal by a name and a zero byte" 6 seal $table ${gcm}00 $iv $plain
+gives "seal by a key-encrypting key" 7 seal $table $kek $iv $plain
+gives "seal, the lowest of all" 1 seal "$room/broken" "${last}00" 00 "$room/plain1" "$room/data1"
+gives "seal, 2 before 4" 2 seal $table "${last}00" 00 "$room/plain1" "$room/data1"
+
+# ---- opening refused
+
+with $table 9 01 >"$room/other-use"
+# a header of mode, k and n, and zeros to the record's end: what is over a maximum is refused before the tag
+laid() { hex 00 01 "$1" 00; hex "$(printf '%08x0018%04x%04x000c%08x%08x' "$3" "$2" $((24 + $2)) $((36 + $2)) $((36 + $2 + $3)))"; zeros $((28 + $2 + $3)); }
+head -c -1 $record >"$room/short"
+{ cat $record; zeros 1; } >"$room/more"
+with $record 2 03 >"$room/mode3"
+with $record 3 01 >"$room/byte3"
+laid 02 32 1048577 >"$room/wide"
+laid 01 33 5 >"$room/name33"
+laid 02 32 2000000 >"$room/wider"
+gives "open by a broken table" 1 open "$room/broken" $record $data
+gives "open a record that is a byte short" 2 open $table "$room/short" $data
+gives "open a record of a byte more" 2 open $table "$room/more" $data
+gives "open an empty file" 2 open $table /dev/null
+gives "open, byte 3 not zero" 2 open $table "$room/byte3" $data
+gives "open, mode 03h" 3 open $table "$room/mode3" $data
+gives "open, n = 1,048,577: 1,048,661 bytes" 4 open $table "$room/wide"
+gives "open, n = 2,000,000" 4 open $table "$room/wider"
+gives "open, a name of 33 bytes" 4 open $table "$room/name33"
+gives "open, 4,097 bytes of associated data" 4 open $table $record "$room/data1"
+gives "open by a table without the name" 6 open "$room/empty" $record $data
+gives "open by a row of another use" 7 open "$room/other-use" $record $data
+gives "open with other associated data" 9 open $table $record $plain
+gives "open without the associated data" 9 open $table $record
+head -c 1048576 "$room/plain1" >"$room/plain"
+gives "seal the largest record" 0 seal "$room/full" $last $iv "$room/plain" "$room/data"
+cp "$room/wrote" "$room/largest"
+gives "open the largest record, 1,048,660 bytes" 0 open "$room/full" "$room/largest" "$room/data"
