@@ -1,6 +1,9 @@
 pub mod Splitting
-pub mod Ran
 pub mod Held
-pub mod Asked
-pub mod Outcomes
+pub mod Named
+pub mod Rounds
+pub mod Told
+pub mod Written
+pub mod Along
+pub mod Answers
 pub mod Laws

@@ -13,7 +13,8 @@ use borrow.Author.Tests.{eq-eqb, ne-eqb}
 use Rattle.octets.specs.Lent.{when}
 use Rattle.octets.specs.Tests.{partOf}
 use Rattle.octets.proofs.Tests.{part-rest}
-use Rattle.cases.specs.Words.{space, upTo, partsAfter, wordsOf, wordAt, someBytes}
+use Rattle.wording.specs.Lines.{space}
+use Rattle.cases.specs.Words.{upTo, partsAfter, wordsOf, wordAt, someBytes}
 
 -- ---- up to the first c
 
@@ -77,9 +78,9 @@ module _ (s : List ℕ) (at : ℕ) where
   word-end zero h = refl
   word-end (suc left) h = rw (drop-of-length-le s {i = at} h)
 
--- the part that is the word
-pub word-part : (s : List ℕ) (at n : ℕ) → n ≡ length (upTo space (partOf s at (length s))) → partOf (partOf s at (length s)) 0 n ≡ upTo space (drop at s)
-word-part s at n e = rw (e, part-rest s at) (upTo-front space (drop at s))
+-- the part from a place on, up to the next c
+pub word-part : (c : ℕ) (s : List ℕ) (at n : ℕ) → n ≡ length (upTo c (partOf s at (length s))) → partOf (partOf s at (length s)) 0 n ≡ upTo c (drop at s)
+word-part c s at n e = rw (e, part-rest s at) (upTo-front c (drop at s))
 
 -- ---- whether a word has a byte
 

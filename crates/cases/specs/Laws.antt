@@ -1,27 +1,35 @@
--- What splitting a line and running it promise, as statements; proofs/Laws.antt proves each.
+-- What splitting a line and running an input promise, as statements; proofs/Laws.antt proves each.
 -- Assumes nothing.
 use mathlib.Core.Path.{_≡_}
+use mathlib.Core.Bool.{true}
 use mathlib.Core.List.{List, [], _∷_, _++_}
-use Prim.Native.Nat.{ℕ, _≤_}
-use Rattle.octets.specs.Unique.{Unique}
-use Rattle.cases.specs.Words.{space, wordsOf}
-use Rattle.cases.specs.Case.{outMax}
-use Rattle.cases.specs.Line.{caseOutcome}
+use Prim.Native.Nat.{ℕ}
+use lib.ListN.{length}
+use Rattle.octets.specs.Lowest.{rises}
+use Rattle.octets.specs.Unique.{UniqueBy}
+use Rattle.cases.specs.declared.Text.{Text}
+use Rattle.cases.specs.Words.{partsBy}
+use Rattle.cases.specs.Calls.{calls, callCount}
+use Rattle.cases.specs.Run.{runTests, runAnswer}
 
--- words with one space between each two
-abbrev pub joined : List (List ℕ) → List ℕ
-joined [] = []
-joined (w ∷ []) = w
-joined (w ∷ v ∷ ws) = w ++ space ∷ joined (v ∷ ws)
+-- parts with one c between each two
+abbrev pub rejoined : ℕ → List (List ℕ) → List ℕ
+rejoined c [] = []
+rejoined c (w ∷ []) = w
+rejoined c (w ∷ v ∷ ws) = w ++ c ∷ rejoined c (v ∷ ws)
 
--- a line is its words so joined
-abbrev pub WordsJoin : Type 0
-WordsJoin = (line : List ℕ) → joined (wordsOf line) ≡ line
+-- a line is its words so joined, and an input its lines
+abbrev pub PartsJoin : Type 0
+PartsJoin = (c : ℕ) (s : List ℕ) → rejoined c (partsBy c s) ≡ s
 
--- an output fits the room that an outcome has for it
-abbrev pub SizeFits : Type 0
-SizeFits = (line bytes : List ℕ) (kind number size : ℕ) → caseOutcome line ≡ (kind, number, size, bytes) → size ≤ outMax
+-- there are as many calls as are counted
+abbrev pub CallsCounted : Type 0
+CallsCounted = length calls ≡ callCount
 
--- for each line one outcome
+-- the numbers of a run rise
+abbrev pub RunTestsRise : Type 0
+RunTestsRise = (input : List ℕ) → rises (runTests input) ≡ true
+
+-- for each input one text
 abbrev pub RunUnique : Type 0
-RunUnique = (line : List ℕ) → Unique (caseOutcome line)
+RunUnique = (input : List ℕ) → UniqueBy (λ (t : Text). (t .number, t .size, t .bytes)) (runAnswer input)

@@ -1,5 +1,7 @@
 pub mod Words
-pub mod Case
+pub mod Strings
+pub mod Calls
 pub mod Line
+pub mod Run
 pub mod Parts
 pub mod Laws

@@ -1,87 +1,77 @@
--- Which case a line is: the table of tests/vectors/README.md.
+-- The text of one line (tests/vectors/README.md): nothing, the answer to its call, or that it is refused.
 -- Assumes nothing.
-use Prim.Native.Nat.{ℕ}
-use mathlib.Core.Bool.{Bool, true, false}
-use mathlib.Core.List.{List}
-use lib.Dec.{eqb}
+use Prim.Native.Nat.{ℕ, _+_}
+use Prim.Native.Char.{code}
+use mathlib.Core.Bool.{Bool, _&&_, false}
+use mathlib.Core.List.{List, [], _∷_, _++_}
+use lib.Dec.{eqb, ltb}
 use lib.ListN.{length, getD}
 use Rattle.octets.specs.Lent.{when}
-use Rattle.octets.specs.Same.{same}
-use Rattle.octets.specs.Tests.{all}
+use Rattle.octets.specs.Tests.{every, all}
 use Rattle.wording.specs.Ascii.{ascii}
-use Rattle.cases.specs.Words.{wordsOf, wordAt, someBytes, begins}
-use Rattle.cases.specs.Case.{Outcome, nothing, malformed, blockCase, encryptCase, decryptCase, wrapCase, unwrapCase}
+use Rattle.wording.specs.Decimal.{decimal}
+use Rattle.wording.specs.Hex.{digitsOf}
+use Rattle.wording.specs.Lines.{space, newline, line}
+use Rattle.cases.specs.Words.{partsAfter, wordsOf, wordAt, someBytes}
+use Rattle.cases.specs.Strings.{isBytes, bytesIn, isLent, lentIn}
+use Rattle.cases.specs.Calls.{Call, calls, callCount, noCall, callNamed}
 
--- ---- words, in ASCII: encryption and decryption, or wrapping and unwrapping
+-- ---- the texts
 
-abbrev pub there : List ℕ
-there = ascii "E"
+-- digits in small letters, or `-` where there are none
+unfoldable pub digitsShown : List ℕ → List ℕ
+digitsShown s = when (eqb (length s) 0) (ascii "-") (digitsOf false s)
 
-abbrev pub back : List ℕ
-back = ascii "D"
+-- NAME number bytes
+unfoldable pub answerText : List ℕ → ℕ × List ℕ → List ℕ
+answerText name a = name ++ ascii " " ++ decimal (a .0) ++ ascii " " ++ digitsShown (a .1) ++ ascii "\n"
 
-abbrev pub ccmWord : List ℕ
-ccmWord = ascii "ccm"
+-- refused N
+abbrev pub refusedText : ℕ → List ℕ
+refusedText number = line (ascii "refused") number
 
-abbrev pub unwrapWord : List ℕ
-unwrapWord = ascii "kw_unwrap"
-
--- how names begin
-abbrev pub gcmName : List ℕ
-gcmName = ascii "gcm"
-
-abbrev pub ccmName : List ℕ
-ccmName = ascii "VNT"
-
-abbrev pub monteCarlo : List ℕ
-monteCarlo = ascii "ECBMCT"
-
--- ---- the kinds of line, by the number of words
-
-module _ (line : List ℕ) where
-  -- the second word is this one
-  abbrev pub says : List ℕ → Bool
-  says w = same (wordAt line 1) w
-
-  abbrev pub nameBegins : List ℕ → Bool
-  nameBegins front = begins front (wordAt line 0)
-
-  -- the Monte Carlo test (tests/vectors/README.md): "each output the next input"
-  abbrev pub runs : ℕ
-  runs = when (nameBegins monteCarlo) 1000 1
-
-  -- NAME E|D key in out; NAME kw_unwrap number kek wrapped
-  unfoldable pub ofFive : Outcome
-  ofFive =
-      when (says there) (blockCase true runs (wordAt line 2) (wordAt line 3))
-      (when (says back) (blockCase false runs (wordAt line 2) (wordAt line 3))
-      (when (says unwrapWord) (unwrapCase (wordAt line 3) (wordAt line 4)) malformed))
-
-  -- NAME E|D number kek key wrapped
-  unfoldable pub ofSix : Outcome
-  ofSix =
-      when (says there) (wrapCase (wordAt line 3) (wordAt line 4))
-      (when (says back) (unwrapCase (wordAt line 3) (wordAt line 5)) malformed)
-
-  -- NAME ccm key iv aad plain cipher tag
-  unfoldable pub ofEight : Outcome
-  ofEight = when (says ccmWord) (encryptCase 1 (wordAt line 2) (wordAt line 3) (wordAt line 4) (wordAt line 5)) malformed
-
-  -- NAME E|D number key iv aad plain cipher tag
-  abbrev pub ofMode : ℕ → Outcome
-  ofMode u =
-      when (says there) (encryptCase u (wordAt line 3) (wordAt line 4) (wordAt line 5) (wordAt line 6))
-      (when (says back) (decryptCase u (wordAt line 3) (wordAt line 4) (wordAt line 5) (wordAt line 7) (wordAt line 8)) malformed)
-
-  unfoldable pub ofNine : Outcome
-  ofNine = when (nameBegins gcmName) (ofMode 2) (when (nameBegins ccmName) (ofMode 1) malformed)
-
-  unfoldable pub byCount : ℕ → Outcome
-  byCount n = when (eqb n 5) ofFive (when (eqb n 6) ofSix (when (eqb n 8) ofEight (when (eqb n 9) ofNine malformed)))
-
+module _ (s : List ℕ) where
   -- an empty line, or one that begins with `#`
   abbrev pub isComment : Bool
-  isComment = eqb (getD line 0 35) 35
+  isComment = eqb (getD s 0 (code "#")) (code "#")
 
-  unfoldable pub caseOutcome : Outcome
-  caseOutcome = when isComment nothing (when (all someBytes (wordsOf line)) (byCount (length (wordsOf line))) malformed)
+  -- after NAME stand CALL, its strings, and what it is lent, of a call that there is; and no word is empty
+  unfoldable pub wordsRight : ℕ → Bool
+  wordsRight call = ltb call callCount && eqb (length (partsAfter space s)) (getD calls call noCall .strings + 2) && all someBytes (wordsOf s)
+
+  -- the string of that number, from 0, of n; the others are empty
+  abbrev pub stringAt : ℕ → ℕ → List ℕ
+  stringAt n i = when (ltb i n) (wordAt s (i + 2)) []
+
+  abbrev pub lentAt : Call → List ℕ
+  lentAt c = wordAt s (c .strings + 2)
+
+  unfoldable pub stringsRight : Call → Bool
+  stringsRight c =
+      every
+      (isBytes (stringAt (c .strings) 0)
+      ∷ isBytes (stringAt (c .strings) 1)
+      ∷ isBytes (stringAt (c .strings) 2)
+      ∷ isBytes (stringAt (c .strings) 3)
+      ∷ isBytes (stringAt (c .strings) 4)
+      ∷ isLent (c .block) (lentAt c)
+      ∷ [])
+
+  unfoldable pub answerOf : Call → ℕ × List ℕ
+  answerOf c =
+      c .gives
+      (bytesIn (stringAt (c .strings) 0))
+      (bytesIn (stringAt (c .strings) 1))
+      (bytesIn (stringAt (c .strings) 2))
+      (bytesIn (stringAt (c .strings) 3))
+      (bytesIn (stringAt (c .strings) 4))
+      (lentIn (c .block) (lentAt c))
+
+  -- the line with the words of that call
+  unfoldable pub askedText : ℕ → Call → List ℕ
+  askedText number c = when (stringsRight c) (answerText (wordAt s 0) (answerOf c)) (refusedText number)
+
+  unfoldable pub caseText : ℕ → List ℕ
+  caseText number =
+      let call : ℕ = callNamed (wordAt s 1) calls in
+      when isComment [] (when (wordsRight call) (askedText number (getD calls call noCall)) (refusedText number))

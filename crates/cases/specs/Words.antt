@@ -4,12 +4,9 @@ use Prim.Native.Nat.{ℕ}
 use mathlib.Core.Bool.{Bool, not}
 use mathlib.Core.List.{List, [], _∷_}
 use lib.Dec.{eqb}
-use lib.ListN.{length, getD, take}
+use lib.ListN.{length, getD}
 use Rattle.octets.specs.Lent.{when}
-use Rattle.octets.specs.Same.{same}
-
-abbrev pub space : ℕ
-space = 32
+use Rattle.wording.specs.Lines.{space}
 
 -- what stands before the first c
 unfoldable pub upTo : ℕ → List ℕ → List ℕ
@@ -21,8 +18,12 @@ unfoldable pub partsAfter : ℕ → List ℕ → List (List ℕ)
 partsAfter c [] = []
 partsAfter c (x ∷ s) = when (eqb x c) (upTo c s ∷ partsAfter c s) (partsAfter c s)
 
+-- the parts of a string between one c and the next
+abbrev pub partsBy : ℕ → List ℕ → List (List ℕ)
+partsBy c s = upTo c s ∷ partsAfter c s
+
 abbrev pub wordsOf : List ℕ → List (List ℕ)
-wordsOf line = upTo space line ∷ partsAfter space line
+wordsOf = partsBy space
 
 -- the word of that number, from 0
 abbrev pub wordAt : List ℕ → ℕ → List ℕ
@@ -30,6 +31,3 @@ wordAt line i = getD (wordsOf line) i []
 
 abbrev pub someBytes : List ℕ → Bool
 someBytes w = not (eqb (length w) 0)
-
-abbrev pub begins : List ℕ → List ℕ → Bool
-begins front w = same (take (length front) w) front

@@ -1,22 +1,52 @@
-// One call of the unit on byte strings, and the outcome of it.
-use crate::outcome::Outcome;
-use crate::outcome::out_room;
-use crate::outcome::ran_case;
-use octets::strings::put;
+// The calls that a line can name: the number of a name, how many strings each takes, and the call. specs/Calls.antt has the table.
+use crate::words::word;
+use octets::strings::equal;
 ghost use mathlib.Core.Path.{_≡_};
-ghost use mathlib.Core.List.{[]};
-ghost use Prim.Native.Nat.{_+_, _≤_};
-ghost use lib.ListN.{length};
-ghost use Rattle.octets.specs.Lent.{answer};
-ghost use Rattle.modes.specs.Modes.{modeOf};
-ghost use Rattle.modes.specs.Calls.{encryptAnswer, decryptAnswer};
-ghost use Rattle.keywrap.specs.Calls.{keySize, wrappedSize, wrapAnswer, unwrapAnswer};
-ghost use Rattle.cases.specs.Case.{wordMax, lentRoom, ran, rounds, blockBy};
+ghost use Prim.Native.Nat.{_≤_, _<_};
+ghost use lib.ListN.{getD};
+ghost use Rattle.aes.specs.Calls.{encryptBlock, decryptBlock};
+ghost use Rattle.octets.specs.Lent.{when};
+ghost use Rattle.octets.specs.Same.{same};
+ghost use Rattle.cases.specs.Calls.{calls, callCount, noCall, callNamed, repeated, blockRounds};
 
-// AES-256, one block that many times over.
+const CALLS: usize = 10;
+
+const BLOCK_ROUNDS: usize = 1000;
+
+fn is_named(name: &[u8], call: usize) -> bool
+    ensures { λ r. ⌜ r ≡ same (getD calls call noCall .name) (now (name .entry)) ⌝ }
+{
+    let names =
+        b"aes256_encrypt aes256_decrypt aes256_encrypt_1000 aes256_decrypt_1000 ccm_encrypt gcm_encrypt ccm_decrypt gcm_decrypt wrap unwrap";
+    equal(word(names, call), name)
+}
+
+// The number of the call of that name, from 0.
+pub(crate) fn call_named(name: &[u8]) -> usize
+    ensures { λ r. ⌜ r ≡ callNamed (now (name .entry)) calls ⌝ }
+{
+    let mut i = 0;
+    while i < CALLS {
+        if is_named(name, i) {
+            return i;
+        }
+        i += 1;
+    }
+    i
+}
+
+pub(crate) fn strings_of(call: usize) -> usize
+    ensures { λ r. ⌜ (r ≡ getD calls call noCall .strings) × (r ≤ 5) ⌝ }
+{
+    let counts: [usize; CALLS] = [1, 1, 1, 1, 4, 4, 5, 5, 2, 2];
+    if call < CALLS {
+        return counts[call];
+    }
+    0
+}
 
 fn one_round(there: bool, key: &[u8], block: &mut [u8]) -> u8
-    ensures { λ r. ⌜ blockBy there (now (key .entry)) (now (block .entry)) ≡ (r, now (block .exit)) ⌝ }
+    ensures { λ r. ⌜ when there encryptBlock decryptBlock (now (key .entry)) (now (block .entry)) ≡ (r, now (block .exit)) ⌝ }
 {
     if there {
         return aes::encrypt_block(key, block);
@@ -24,11 +54,11 @@ fn one_round(there: bool, key: &[u8], block: &mut [u8]) -> u8
     aes::decrypt_block(key, block)
 }
 
-fn all_rounds(there: bool, times: usize, key: &[u8], block: &mut [u8]) -> u8
-    ensures { λ r. ⌜ rounds (blockBy there) times (now (key .entry)) (now (block .entry)) ≡ (r, now (block .exit)) ⌝ }
+fn all_rounds(there: bool, key: &[u8], block: &mut [u8]) -> u8
+    ensures { λ r. ⌜ repeated (when there encryptBlock decryptBlock) blockRounds (now (key .entry)) (now (block .entry)) ≡ (r, now (block .exit)) ⌝ }
 {
     let mut i = 0;
-    while i < times {
+    while i < BLOCK_ROUNDS {
         let number = one_round(there, key, block);
         if number != 0 {
             return number;
@@ -38,60 +68,29 @@ fn all_rounds(there: bool, times: usize, key: &[u8], block: &mut [u8]) -> u8
     0
 }
 
-pub(crate) fn run_block(there: bool, times: usize, key: &[u8], block: &[u8]) -> Outcome
-    requires { ⌜ length (now block) ≤ wordMax ⌝ }
-    ensures { λ r. ⌜ ran (answer (rounds (blockBy there) times (now (key .entry)) (now (block .entry)) .0) (rounds (blockBy there) times (now (key .entry)) (now (block .entry)) .1) lentRoom) (length (now (block .entry))) ≡ (r .kind, r .number, r .size, r .bytes) ⌝ }
+// The call of that number, on up to five strings and what is lent.
+pub(crate) fn call(
+    number: usize,
+    a: &[u8],
+    b: &[u8],
+    c: &[u8],
+    d: &[u8],
+    e: &[u8],
+    lent: &mut [u8],
+) -> u8
+    requires { ⌜ number < callCount ⌝ }
+    ensures { λ r. ⌜ getD calls number noCall .gives (now (a .entry)) (now (b .entry)) (now (c .entry)) (now (d .entry)) (now (e .entry)) (now (lent .entry)) ≡ (r, now (lent .exit)) ⌝ }
 {
-    let mut out = out_room();
-    put(&mut out, block);
-    let size = block.len();
-    let number = all_rounds(there, times, key, &mut out[..size]);
-    if number != 0 {
-        return ran_case(number, 0, out_room());
+    match number {
+        0 => aes::encrypt_block(a, lent),
+        1 => aes::decrypt_block(a, lent),
+        2 => all_rounds(true, a, lent),
+        3 => all_rounds(false, a, lent),
+        4 => modes::encrypt(1, a, b, c, b"", d, lent),
+        5 => modes::encrypt(2, a, b, c, b"", d, lent),
+        6 => modes::decrypt(1, a, b, c, b"", d, e, lent),
+        7 => modes::decrypt(2, a, b, c, b"", d, e, lent),
+        8 => keywrap::wrap(a, b, lent),
+        _ => keywrap::unwrap(a, b, lent),
     }
-    ran_case(0, size, out)
-}
-
-// A mode called by itself: the second part of its associated data is empty.
-
-pub(crate) fn run_encrypt(u: u8, key: &[u8], iv: &[u8], aad: &[u8], plain: &[u8]) -> Outcome
-    requires { ⌜ length (now plain) ≤ wordMax ⌝ }
-    ensures { λ r. ⌜ ran (encryptAnswer (modeOf u) (now (key .entry)) (now (iv .entry)) (now (aad .entry)) [] (now (plain .entry)) lentRoom) (length (now (plain .entry)) + modeOf u .tagSize) ≡ (r .kind, r .number, r .size, r .bytes) ⌝ }
-{
-    let mut out = out_room();
-    let number = modes::encrypt(u, key, iv, aad, &aad[..0], plain, &mut out);
-    ran_case(number, plain.len() + modes::tag_size(u), out)
-}
-
-pub(crate) fn run_decrypt(
-    u: u8,
-    key: &[u8],
-    iv: &[u8],
-    aad: &[u8],
-    text: &[u8],
-    tag: &[u8],
-) -> Outcome
-    ensures { λ r. ⌜ ran (decryptAnswer (modeOf u) (now (key .entry)) (now (iv .entry)) (now (aad .entry)) [] (now (text .entry)) (now (tag .entry)) lentRoom) (length (now (text .entry))) ≡ (r .kind, r .number, r .size, r .bytes) ⌝ }
-{
-    let mut out = out_room();
-    let number = modes::decrypt(u, key, iv, aad, &aad[..0], text, tag, &mut out);
-    ran_case(number, text.len(), out)
-}
-
-// Key wrap.
-
-pub(crate) fn run_wrap(kek: &[u8], key: &[u8]) -> Outcome
-    ensures { λ r. ⌜ ran (wrapAnswer (now (kek .entry)) (now (key .entry)) lentRoom) wrappedSize ≡ (r .kind, r .number, r .size, r .bytes) ⌝ }
-{
-    let mut out = out_room();
-    let number = keywrap::wrap(kek, key, &mut out);
-    ran_case(number, 40, out)
-}
-
-pub(crate) fn run_unwrap(kek: &[u8], wrapped: &[u8]) -> Outcome
-    ensures { λ r. ⌜ ran (unwrapAnswer (now (kek .entry)) (now (wrapped .entry)) lentRoom) keySize ≡ (r .kind, r .number, r .size, r .bytes) ⌝ }
-{
-    let mut out = out_room();
-    let number = keywrap::unwrap(kek, wrapped, &mut out);
-    ran_case(number, 32, out)
 }

@@ -1,19 +1,32 @@
-// Which case a line is, by the number of its words, the second, and how its name begins.
-use crate::kinds::block_case;
-use crate::kinds::decrypt_case;
-use crate::kinds::encrypt_case;
-use crate::kinds::unwrap_case;
-use crate::kinds::wrap_case;
-use crate::outcome::Outcome;
-use crate::outcome::broken_case;
-use crate::words::is_word;
-use crate::words::name_begins;
+// One line: what it says. specs/Line.antt has the text.
+use crate::calls::call;
+use crate::calls::call_named;
+use crate::calls::strings_of;
+use crate::strings::WORD_MAX;
+use crate::strings::lend;
+use crate::strings::read_word;
+use crate::words::no_empty_word;
+use crate::words::spaces;
 use crate::words::word;
+use octets::strings::part;
+use wording::writing::put_byte;
+use wording::writing::put_decimal;
+use wording::writing::put_hex;
+use wording::writing::put_line;
+use wording::writing::put_string;
 ghost use mathlib.Core.Path.{_≡_};
-ghost use Rattle.cases.specs.Line.{runs, ofFive, ofSix, ofEight, ofMode, ofNine, byCount, isComment};
+ghost use Prim.Native.Nat.{_≤_, _<_};
+ghost use lib.ListN.{length, getD, take};
+ghost use Rattle.cases.specs.Calls.{calls, callCount, noCall};
+ghost use Rattle.cases.specs.Line.{digitsShown, answerText, isComment, wordsRight, stringAt, askedText, caseText};
+ghost use Rattle.cases.specs.Parts.{Put};
+ghost use Rattle.cases.specs.Strings.{wordMax};
+ghost use Rattle.cases.specs.Run.{runMax};
+
+const CALLS: usize = 10;
 
 // An empty line, or one that begins with `#`.
-pub(crate) fn is_comment(line: &[u8]) -> bool
+fn is_comment(line: &[u8]) -> bool
     ensures { λ r. ⌜ r ≡ isComment (now (line .entry)) ⌝ }
 {
     if line.len() == 0 {
@@ -22,109 +35,117 @@ pub(crate) fn is_comment(line: &[u8]) -> bool
     line[0] == b'#'
 }
 
-// 1,000 rounds for the Monte Carlo test.
-fn times_of(line: &[u8]) -> usize
-    ensures { λ r. ⌜ r ≡ runs (now (line .entry)) ⌝ }
+fn words_right(line: &[u8], call: usize) -> bool
+    ensures { λ r. ⌜ r ≡ wordsRight (now (line .entry)) call ⌝ }
 {
-    if name_begins(line, b"ECBMCT") {
-        return 1000;
+    let last = spaces(line);
+    if (call < CALLS) & (last == strings_of(call) + 2) {
+        return no_empty_word(line, last);
     }
-    1
+    false
 }
 
-fn of_five(line: &[u8]) -> Outcome
-    ensures { λ r. ⌜ ofFive (now (line .entry)) ≡ (r .kind, r .number, r .size, r .bytes) ⌝ }
+// The string of that number, of n; the others are empty.
+fn string_at(line: &[u8], n: usize, number: usize) -> &[u8]
+    requires { ⌜ n ≤ 5 ⌝ }
+    ensures { λ r. ⌜ now r ≡ stringAt (now (line .entry)) n number ⌝ }
 {
-    if is_word(line, 1, b"E") {
-        return block_case(true, times_of(line), word(line, 2), word(line, 3));
+    if number < n {
+        return word(line, number + 2);
     }
-    if is_word(line, 1, b"D") {
-        return block_case(false, times_of(line), word(line, 2), word(line, 3));
-    }
-    if is_word(line, 1, b"kw_unwrap") {
-        return unwrap_case(word(line, 3), word(line, 4));
-    }
-    broken_case()
+    part(line, 0, 0)
 }
 
-fn of_six(line: &[u8]) -> Outcome
-    ensures { λ r. ⌜ ofSix (now (line .entry)) ≡ (r .kind, r .number, r .size, r .bytes) ⌝ }
+// The texts, each at a place of the room.
+
+fn put_shown(out: &mut [u8], at: usize, s: &[u8]) -> usize
+    requires { ⌜ length (now out) ≤ runMax ⌝ }
+    ensures { λ r. ⌜ Put at (digitsShown (now (s .entry))) (now (out .entry)) (now (out .exit)) r ⌝ }
 {
-    if is_word(line, 1, b"E") {
-        return wrap_case(word(line, 3), word(line, 4));
+    if s.len() == 0 {
+        return put_byte(out, at, b'-');
     }
-    if is_word(line, 1, b"D") {
-        return unwrap_case(word(line, 3), word(line, 5));
-    }
-    broken_case()
+    put_hex(out, at, s, false)
 }
 
-fn of_eight(line: &[u8]) -> Outcome
-    ensures { λ r. ⌜ ofEight (now (line .entry)) ≡ (r .kind, r .number, r .size, r .bytes) ⌝ }
+fn put_answer(out: &mut [u8], at: usize, name: &[u8], number: u8, lent: &[u8]) -> usize
+    requires { ⌜ length (now out) ≤ runMax ⌝ }
+    ensures { λ r. ⌜ Put at (answerText (now (name .entry)) (number, now (lent .entry))) (now (out .entry)) (now (out .exit)) r ⌝ }
 {
-    if is_word(line, 1, b"ccm") {
-        return encrypt_case(
-            1,
-            word(line, 2),
-            word(line, 3),
-            word(line, 4),
-            word(line, 5),
+    let space_at = put_string(out, at, name);
+    let number_at = put_byte(out, space_at, b' ');
+    let other_at = put_decimal(out, number_at, number as u64);
+    let lent_at = put_byte(out, other_at, b' ');
+    let end_at = put_shown(out, lent_at, lent);
+    put_byte(out, end_at, b'\n')
+}
+
+// The answer to a call, on up to five strings and what it is lent.
+fn put_called(
+    out: &mut [u8],
+    at: usize,
+    name: &[u8],
+    asked: usize,
+    a: &[u8],
+    b: &[u8],
+    c: &[u8],
+    d: &[u8],
+    e: &[u8],
+    size: usize,
+    lent: [u8; WORD_MAX],
+) -> usize
+    requires { ⌜ (length (now out) ≤ runMax) × (asked < callCount) × (size ≤ wordMax) × (length lent ≡ wordMax) ⌝ }
+    ensures { λ r. ⌜ Put at (answerText (now (name .entry)) (getD calls asked noCall .gives (now (a .entry)) (now (b .entry)) (now (c .entry)) (now (d .entry)) (now (e .entry)) (take size lent)))
+        (now (out .entry)) (now (out .exit)) r ⌝ }
+{
+    let mut room = lent;
+    let number = call(asked, a, b, c, d, e, &mut room[..size]);
+    put_answer(out, at, name, number, part(&room, 0, size))
+}
+
+// A line with the words of a call.
+fn put_asked(out: &mut [u8], at: usize, line: &[u8], number: usize, asked: usize) -> usize
+    requires { ⌜ (length (now out) ≤ runMax) × (asked < callCount) ⌝ }
+    ensures { λ r. ⌜ Put at (askedText (now (line .entry)) number (getD calls asked noCall)) (now (out .entry)) (now (out .exit)) r ⌝ }
+{
+    let n = strings_of(asked);
+    let a = read_word(string_at(line, n, 0));
+    let b = read_word(string_at(line, n, 1));
+    let c = read_word(string_at(line, n, 2));
+    let d = read_word(string_at(line, n, 3));
+    let e = read_word(string_at(line, n, 4));
+    // what is lent is a block where there is one string
+    let l = lend(n == 1, word(line, n + 2));
+    let lent = l.bytes;
+    if a.right & b.right & c.right & d.right & e.right & l.right {
+        return put_called(
+            out,
+            at,
+            word(line, 0),
+            asked,
+            part(&a.bytes, 0, a.size),
+            part(&b.bytes, 0, b.size),
+            part(&c.bytes, 0, c.size),
+            part(&d.bytes, 0, d.size),
+            part(&e.bytes, 0, e.size),
+            l.size,
+            lent,
         );
     }
-    broken_case()
+    put_line(out, at, b"refused", number as u64)
 }
 
-fn of_mode(line: &[u8], u: u8) -> Outcome
-    ensures { λ r. ⌜ ofMode (now (line .entry)) u ≡ (r .kind, r .number, r .size, r .bytes) ⌝ }
+// The text of a line, of that number from 1.
+pub(crate) fn put_case(out: &mut [u8], at: usize, line: &[u8], number: usize) -> usize
+    requires { ⌜ length (now out) ≤ runMax ⌝ }
+    ensures { λ r. ⌜ Put at (caseText (now (line .entry)) number) (now (out .entry)) (now (out .exit)) r ⌝ }
 {
-    if is_word(line, 1, b"E") {
-        return encrypt_case(
-            u,
-            word(line, 3),
-            word(line, 4),
-            word(line, 5),
-            word(line, 6),
-        );
+    if is_comment(line) {
+        return at;
     }
-    if is_word(line, 1, b"D") {
-        return decrypt_case(
-            u,
-            word(line, 3),
-            word(line, 4),
-            word(line, 5),
-            word(line, 7),
-            word(line, 8),
-        );
+    let asked = call_named(word(line, 1));
+    if words_right(line, asked) {
+        return put_asked(out, at, line, number, asked);
     }
-    broken_case()
-}
-
-fn of_nine(line: &[u8]) -> Outcome
-    ensures { λ r. ⌜ ofNine (now (line .entry)) ≡ (r .kind, r .number, r .size, r .bytes) ⌝ }
-{
-    if name_begins(line, b"gcm") {
-        return of_mode(line, 2);
-    }
-    if name_begins(line, b"VNT") {
-        return of_mode(line, 1);
-    }
-    broken_case()
-}
-
-pub(crate) fn by_count(line: &[u8], n: usize) -> Outcome
-    ensures { λ r. ⌜ byCount (now (line .entry)) n ≡ (r .kind, r .number, r .size, r .bytes) ⌝ }
-{
-    if n == 5 {
-        return of_five(line);
-    }
-    if n == 6 {
-        return of_six(line);
-    }
-    if n == 8 {
-        return of_eight(line);
-    }
-    if n == 9 {
-        return of_nine(line);
-    }
-    broken_case()
+    put_line(out, at, b"refused", number as u64)
 }

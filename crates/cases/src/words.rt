@@ -1,17 +1,16 @@
-// A text's lines and a line's words. specs/Words.antt says what the words of a line are.
-use octets::strings::equal;
+// The parts of a text: an input's lines and a line's words. specs/Words.antt says what they are.
 use octets::strings::part;
 ghost use mathlib.Core.Path.{_≡_};
 ghost use Prim.Native.Nat.{_≤_};
 ghost use lib.Dec.{eqb};
 ghost use lib.ListN.{length, drop};
 ghost use Rattle.octets.specs.Lent.{when};
-ghost use Rattle.octets.specs.Same.{same};
 ghost use Rattle.octets.specs.Tests.{all};
-ghost use Rattle.cases.specs.Words.{space, upTo, partsAfter, wordsOf, wordAt, begins, someBytes};
+ghost use Rattle.wording.specs.Lines.{space};
+ghost use Rattle.cases.specs.Words.{upTo, partsAfter, wordsOf, wordAt, someBytes};
 
 // How many bytes stand before the first stop.
-pub fn until(s: &[u8], stop: u8) -> usize
+pub(crate) fn until(s: &[u8], stop: u8) -> usize
     ensures { λ r. ⌜ r ≡ length (upTo stop (now (s .entry))) ⌝ }
 {
     let mut i = 0;
@@ -62,7 +61,7 @@ fn start_of(line: &[u8], number: usize) -> usize
 }
 
 // The word of that number, from 0, as the part of the line that it is.
-pub fn word(line: &[u8], number: usize) -> &[u8]
+pub(crate) fn word(line: &[u8], number: usize) -> &[u8]
     ensures { λ r. ⌜ now r ≡ wordAt (now (line .entry)) number ⌝ }
 {
     let at = start_of(line, number);
@@ -84,17 +83,4 @@ pub(crate) fn no_empty_word(line: &[u8], last: usize) -> bool
         i += 1;
     }
     true
-}
-
-pub(crate) fn is_word(line: &[u8], number: usize, text: &[u8]) -> bool
-    ensures { λ r. ⌜ r ≡ same (wordAt (now (line .entry)) number) (now (text .entry)) ⌝ }
-{
-    equal(word(line, number), text)
-}
-
-pub(crate) fn name_begins(line: &[u8], front: &[u8]) -> bool
-    ensures { λ r. ⌜ r ≡ begins (now (front .entry)) (wordAt (now (line .entry)) 0) ⌝ }
-{
-    let name = word(line, 0);
-    equal(part(name, 0, front.len()), front)
 }

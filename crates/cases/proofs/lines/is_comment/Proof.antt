@@ -2,7 +2,7 @@
 -- Assumes nothing.
 use mathlib.Core.Path.{sym}
 use borrow.Author.Needs.{needs}
-use Rattle.cases.proofs.Outcomes.{comment-empty, comment-first}
+use Rattle.cases.proofs.Told.{comment-empty, comment-first}
 use Rattle.cases.proofs.lines.is_comment.Statement.{statement}
 use Rattle.cases.proofs.lines.is_comment.Tie as tie
 

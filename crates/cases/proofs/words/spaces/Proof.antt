@@ -5,7 +5,8 @@ use Prim.Native.Nat.{_+_, _-_, _≤_}
 use native.Mathlib.Omega.{arith}
 use borrow.Author.Needs.{needs}
 use lib.ListN.{length, drop}
-use Rattle.cases.specs.Words.{space, partsAfter}
+use Rattle.wording.specs.Lines.{space}
+use Rattle.cases.specs.Words.{partsAfter}
 use Rattle.cases.proofs.Splitting.{parts-turn, parts-end}
 use Rattle.cases.proofs.words.spaces.Statement.{statement}
 use Rattle.cases.proofs.words.spaces.Tie as tie

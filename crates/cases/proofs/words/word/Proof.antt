@@ -7,7 +7,8 @@ use borrow.Author.Needs.{needs}
 use lib.ListN.{length}
 use denote.Ref.{now}
 use Rattle.octets.specs.Tests.{partOf}
-use Rattle.cases.specs.Words.{space, upTo}
+use Rattle.wording.specs.Lines.{space}
+use Rattle.cases.specs.Words.{upTo}
 use Rattle.cases.proofs.Splitting.{word-part}
 use Rattle.cases.proofs.words.word.Statement.{statement}
 use Rattle.cases.proofs.words.word.Tie as tie
@@ -21,7 +22,7 @@ returns c =
     let rest = p .part .ensures in
     c .part2 .ensures
     ∙ ap (λ (l : List ℕ). partOf l 0 (u .until .result)) rest
-    ∙ word-part line (s .start-of .result) (u .until .result) (u .until .ensures ∙ ap (λ (l : List ℕ). length (upTo space l)) rest)
+    ∙ word-part space line (s .start-of .result) (u .until .result) (u .until .ensures ∙ ap (λ (l : List ℕ). length (upTo space l)) rest)
     ∙ sym (s .start-of .ensures)
 
 pub word-spec : {M : Type 1} → statement M
