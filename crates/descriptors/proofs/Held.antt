@@ -1,6 +1,6 @@
 -- What the walks over a `Reader` share. A `Reader` holds a `&`, so it is Copy: what it owns gives parts of itself away and is kept.
 --     Row, mach, Own                  the struct's type at a lifetime, a struct's machine value, and what it owns
---     fields-out, list-out            what the fields own together, and what list owns, beside what the struct owns
+--     list-out                        what list owns, beside what the struct owns
 --     again                           what the struct with another cursor owns
 --     number-fits, from-fits, end-fits, next-is        what is known of the fields of a result of `advance_at`
 -- The first two groups take `Given`. Assumes nothing else.
@@ -56,14 +56,14 @@ module _ (α : NamedLft) where
   abbrev pub List-own : Reader → Fml
   List-own d = ShrSlice (named 0) (α .lft) u8 .own (d .list) (slice-vals (d .list))
 
-  abbrev pub Fields-own : Reader → Fml
+  abbrev Fields-own : Reader → Fml
   Fields-own d = owns (ShrSlice (named 0) (α .lft) u8 ∷ C.the-row ∷ []) (d .list, (d .place, tt)) (slice-vals (d .list), (LL.vals C.the-type C′.the-laws (d .place), tt))
 
   abbrev values : Reader → Values (D .parts)
   values d = (d .list, (d .place, tt))
 
   module _ {M : Type 1} (𝓤 : URA M) (H : Heap 𝓤) (A : Atoms 𝓤) (W : Given 𝓤 H A) (d : Reader) where
-    pub fields-out : ent 𝓤 (sem 𝓤 H A (Own d)) (sep 𝓤 (sem 𝓤 H A (Fields-own d)) (sem 𝓤 H A (Own d)))
+    fields-out : ent 𝓤 (sem 𝓤 H A (Own d)) (sep 𝓤 (sem 𝓤 H A (Fields-own d)) (sem 𝓤 H A (Own d)))
     fields-out =
         qed W (‵ (Own d) ∷ []) ∵ use1 W (‵ (Own d) ⊛ ‵ (Own d)) (LL.copy D (T′.the-copy α) 𝓤 H A W .twice d (mach d ∷ [])) $ split ! $
         use1 W (given (mach d ∷ [] ≡ mach d ∷ []) (‵ (all-own (D .parts) L (values d)))) (own-open 𝓤 H A W D L (values d) (mach d)) $ learn ! (λ _. frame ! $ done !)

@@ -88,8 +88,9 @@ module _ {M : Type 1} {𝓤 : URA M} {H : Heap 𝓤} (w : Scene 𝓤 H) (T : End
       returned : {K : Type 0} (t : K) {Γ : List (Item 𝓤)} → ((r : Res (T .signature) κs) (ws : Lasts T κs a) → ent 𝓤 (Ensures r ws) (fact 𝓤 (Said r ws)))
           → (G : Val → Goal 𝓤 H) (v : Val) → Soaks (G v) → Rest K Γ G → Seq K (w .W) (raw (promise 𝓤 H (w .A) T c .post ((κs, qs, bounds, a, vss), g) v) ∷ Γ) (G v)
       returned {K} t {Γ} ensures G v z k =
-          use1 (w .W) (later (some (λ (r : Res (T .signature) κs). (raw (alive 𝓤 H (w .A) (T .signature) κs qs) ⊛ ‵ (R .own r (v ∷ []))) ⊛ some (λ (ws : Lasts T κs a). ‵ (lasts T κs a ws) ⊛ raw (Ensures r ws)))))
-          (id⊢ 𝓤 _) $ await t z $ pick t (λ r. split t $ move t (1 ∷ []) $ pick t (λ ws. split t $ move t (1 ∷ []) $
+          let P : SProp 𝓤 = alive 𝓤 H (w .A) (T .signature) κs qs in
+          use1 (w .W) (later (some (λ (r : Res (T .signature) κs). (raw P ⊛ ‵ (R .own r (v ∷ []))) ⊛ some (λ (ws : Lasts T κs a). ‵ (lasts T κs a ws) ⊛ raw (Ensures r ws))))) (id⊢ 𝓤 _) $
+          await t z $ pick t (λ r. split t $ move t (1 ∷ []) $ pick t (λ ws. split t $ move t (1 ∷ []) $
           use1 (w .W) (raw (fact 𝓤 (Said r ws))) (ensures r ws) $ heard t (Said r ws) (λ e. move t (1 ∷ []) $ split t $ move t (1 ∷ []) $
           peeks t R (Is R) (shows 𝓤 H (w .A) R) r (v ∷ []) (λ is. move t (1 ∷ 2 ∷ 0 ∷ []) $ gathered t r ws v $
           subst (λ (u : Val). Is R r (u ∷ []) → Seq K (w .W) (given-on r ws u Γ) (G u)) (sym (ap only (N .tells r (v ∷ []) is)))

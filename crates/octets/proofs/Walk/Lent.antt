@@ -36,8 +36,10 @@ module _ {M : Type 1} {𝓤 : URA M} {H : Heap 𝓤} {A : Atoms 𝓤} {K : Type 
 
   pub closed : K → Soaks G → (N : Known R) (x : RefT (R .Denot)) (h : R .Denot) {κ : Lft} {q : Share} {u v : Gv}
       → Step K W (‵ (MutRef erased κ R .own (at-last x h) (ptr-vals x)) ∷ ‵ (flft κ q) ∷ Γ) G
-      (‵ (cellAt fullShare (R .mir) (N .val h ∷ []) (ptr x .0) (ptr x .1)) ∷ ‵ (R .own h (N .val h ∷ [])) ∷ ‵ (fobor κ q (Body (mem R) (ptr x .0) (ptr x .1) (name x))) ∷ ‵ (fobs (name x) u) ∷ ‵ (fauth (name x) v) ∷ Γ) G
-  closed t z N x h {κ} {q} {u} {v} = step (λ s. closes t z R {κ = κ} {q = q} {u = u} {v = v} h (N .val h ∷ []) {γ = name x} (ptr x .0) (ptr x .1) $ feqI t (List Val) (ptr-vals x) (ptr-vals x) refl $ fjoin3 t $ s)
+      (‵ (cellAt fullShare (R .mir) (N .val h ∷ []) (ptr x .0) (ptr x .1)) ∷ ‵ (R .own h (N .val h ∷ [])) ∷ ‵ (fobor κ q (Body (mem R) (ptr x .0) (ptr x .1) (name x)))
+      ∷ ‵ (fobs (name x) u) ∷ ‵ (fauth (name x) v) ∷ Γ) G
+  closed t z N x h {κ} {q} {u} {v} = step (λ s.
+      closes t z R {κ = κ} {q = q} {u = u} {v = v} h (N .val h ∷ []) {γ = name x} (ptr x .0) (ptr x .1) $ feqI t (List Val) (ptr-vals x) (ptr-vals x) refl $ fjoin3 t $ s)
 
 module _ {M : Type 1} {𝓤 : URA M} {H : Heap 𝓤} {A : Atoms 𝓤} {K : Type 0} {W : Given 𝓤 H A} {Γ : List (Item 𝓤)} {G : Goal 𝓤 H} where
   pub learnt : K → {P : Fml} {X : Type 0} {m n : X} → (m ≡ n → Seq K W (‵ P ∷ Γ) G) → Seq K W (‵ (fsep P (feq X m n)) ∷ Γ) G

@@ -190,7 +190,8 @@ module _ {M : Type 1} (𝓤 : URA M) (H : Heap 𝓤) where
           rd : ℕ → SProp 𝓤
           rd b = sep 𝓤 (H .room (tyOf 𝓤 H l) b zero) (H .dies (tyOf 𝓤 H l) b)
 
-      passed : (ls : List Local) (vs : List Val) → Fits ls vs → (bs : Blocks ls) (P K : SProp 𝓤) → ent 𝓤 (held (envOf ls bs) (stored vs) P) K → ent 𝓤 (held (envOf ls bs) [] P) (pass 𝓤 H (envOf ls bs) vs K)
+      passed : (ls : List Local) (vs : List Val) → Fits ls vs → (bs : Blocks ls) (P K : SProp 𝓤) → ent 𝓤 (held (envOf ls bs) (stored vs) P) K
+          → ent 𝓤 (held (envOf ls bs) [] P) (pass 𝓤 H (envOf ls bs) vs K)
       passed ls [] fits bs P K h = h
       passed [] (v ∷ vs) fits bs P K h = absurd fits
       passed (l ∷ ls) (v ∷ vs) fits bs P K h =

@@ -1,5 +1,6 @@
 -- What a walk knows of the types that a signature names.
---     Known R          a type with one machine value: what it is, that what is owned tells it, and that it is of the MIR type.        struct, number, truth, reference, slice-lent, slice-read
+--     Known R          a type with one machine value: what it is, that what is owned tells it, and that it is of the MIR type
+--         struct, number, truth, reference, slice-lent, slice-read     the types that a walk meets
 --     Param s k        a parameter at the slot s: how it stands at exit (the kit's `Stay` and its law `Goes`), as the formulas that are had of it, and its type
 --         lent j       a `&mut` that the function still has at exit, at its last value.        passed-on j     one that it has given up to a callee
 --         slice-passed-on j    a `&mut [T]` that it has given up to a callee.        slice-over j     a `&[T]` of which nothing is had at exit
@@ -30,7 +31,8 @@ use denote.Struct.Laws as LL
 use denote.Exit.{Kept, yes, Last}
 use denote.Signature.{Slot, AllWithin, nameOf, meetAt, plain, mutRefTo, mutSliceOf, shrSliceOf, typesAt}
 use denote.Triple.End.{Kepts, Fins}
-use denote.Triple.Walked.{Stay, Stays, hasOf, Silent, Goes, AllGo, stay-ref, gave-ref, gave-slice, stay-dropped, stay-none, stay-none-slice, goes-ref, goes-gave-ref, goes-gave-slice, goes-dropped, goes-none, goes-none-slice}
+use denote.Triple.Walked.{Stay, Stays, hasOf, Silent, Goes, AllGo, stay-ref, gave-ref, gave-slice, stay-dropped, stay-none, stay-none-slice}
+use denote.Triple.Walked.{goes-ref, goes-gave-ref, goes-gave-slice, goes-dropped, goes-none, goes-none-slice}
 
 -- ---- types with one machine value
 pub record Known (R : RattleType) : Type 2 where
@@ -154,11 +156,13 @@ module _ {n : ℕ} where
   all-lawful 𝓤 H A W (s ∷ ss) ks ps κs = (ps .0 .type κs .lawful 𝓤 H A W, all-lawful 𝓤 H A W ss (ks .1) (ps .1) κs)
 
   -- what is had of the parameters at exit, as entries
-  abbrev pub had-on : {M : Type 1} (𝓤 : URA M) (ss : List (Slot n)) (ks : Kepts ss) → Params ss ks → (κs : Lfts n) (a : Denots (typesAt ss κs)) → Fins κs ss ks a → Valss (typesAt ss κs) → List (Item 𝓤) → List (Item 𝓤)
+  abbrev pub had-on : {M : Type 1} (𝓤 : URA M) (ss : List (Slot n)) (ks : Kepts ss) → Params ss ks → (κs : Lfts n) (a : Denots (typesAt ss κs)) → Fins κs ss ks a → Valss (typesAt ss κs)
+      → List (Item 𝓤) → List (Item 𝓤)
   had-on 𝓤 [] ks ps κs a ws vss Γ = Γ
   had-on 𝓤 (s ∷ ss) ks ps κs a ws vss Γ = map (λ F. ‵ F) (ps .0 .had κs (a .0) (ws .0) (vss .0)) ++ had-on 𝓤 ss (ks .1) (ps .1) κs (a .1) (ws .1) (vss .1) Γ
 
-  pub had-gives : {M : Type 1} (𝓤 : URA M) (H : Heap 𝓤) (A : Atoms 𝓤) (ss : List (Slot n)) (ks : Kepts ss) (ps : Params ss ks) (κs : Lfts n) (a : Denots (typesAt ss κs)) (ws : Fins κs ss ks a) (vss : Valss (typesAt ss κs)) (Γ : List (Item 𝓤))
+  pub had-gives : {M : Type 1} (𝓤 : URA M) (H : Heap 𝓤) (A : Atoms 𝓤) (ss : List (Slot n)) (ks : Kepts ss) (ps : Params ss ks) (κs : Lfts n) (a : Denots (typesAt ss κs)) (ws : Fins κs ss ks a)
+      (vss : Valss (typesAt ss κs)) (Γ : List (Item 𝓤))
       → ent 𝓤 (⋆ 𝓤 H A (had-on 𝓤 ss ks ps κs a ws vss Γ)) (sep 𝓤 (sem 𝓤 H A (hasOf κs ss ks (stays ss ks ps) a ws vss)) (⋆ 𝓤 H A Γ))
   had-gives 𝓤 H A [] ks ps κs a ws vss Γ = emp∗ 𝓤 (⋆ 𝓤 H A Γ)
   had-gives 𝓤 H A (s ∷ ss) ks ps κs a ws vss Γ =

@@ -85,7 +85,8 @@ module _ {M : Type 1} {𝓤 : URA M} {H : Heap 𝓤} {A : Atoms 𝓤} {K : Type 
   again t k e = addr t (from t (hop t (look t (at 𝓤 H Γ k) e) (stop t)))
 
   -- `&*_k.0` of a lent slice `_k`
-  start : K → (k : ℕ) {q : Share} {ν : Sym} {τs : Tys} {us : Vals} {τ σ : Ty} {d b o : ℕ} → Fields 𝓤 H A Γ E k q ν τs (vcons (vptr b o) us) 0 σ d → Rv K W Γ E (addrOf (place k (dot 0 ∷ deref τ ∷ []))) (vptr b o)
+  start : K → (k : ℕ) {q : Share} {ν : Sym} {τs : Tys} {us : Vals} {τ σ : Ty} {d b o : ℕ} → Fields 𝓤 H A Γ E k q ν τs (vcons (vptr b o) us) 0 σ d
+      → Rv K W Γ E (addrOf (place k (dot 0 ∷ deref τ ∷ []))) (vptr b o)
   start t k e = addr t (from t (fld t (ap (λ x. x .1 .1) e) (hop t (look-in t (at 𝓤 H Γ k) (within Γ t (at 𝓤 H Γ k) 0 (ap (λ x. x .0) e) (ap (λ x. x .1 .0) e))) (stop t))))
 
   -- ---- lists of operands
@@ -119,7 +120,8 @@ module _ {M : Type 1} {𝓤 : URA M} {H : Heap 𝓤} {A : Atoms 𝓤} {K : Type 
         → FieldBehind 𝓤 H A Γ E k s b o fullShare ν τs vs p j τ σ d → T (hasTy σ v) × WT v
         → Step K W (put 𝓤 H A p (‵ (fat fullShare (tyStruct ν τs) b o (vstruct (setV vs j v)))) Γ) (runs C Λ E rest q) Γ (runs C Λ E (seq (assign (place k (deref τ ∷ dot j ∷ [])) rv) rest) q)
     stores-field t k p j r e wt =
-        assigns t r (from t (hop t (look t (at 𝓤 H Γ k) (ap (λ x. x .0) e)) (fld t (ap (λ x. x .1 .1 .1) e) (stop t)))) (store-in t p (within Γ t p j (ap (λ x. x .1 .0) e) (ap (λ x. x .1 .1 .0) e)) wt)
+        assigns t r (from t (hop t (look t (at 𝓤 H Γ k) (ap (λ x. x .0) e)) (fld t (ap (λ x. x .1 .1 .1) e) (stop t))))
+        (store-in t p (within Γ t p j (ap (λ x. x .1 .0) e) (ap (λ x. x .1 .1 .0) e)) wt)
 
 -- ---- a lent slice is lent on
 module _ {M : Type 1} (𝓤 : URA M) (H : Heap 𝓤) (A : Atoms 𝓤) (Γ : List (Item 𝓤)) (E : Env 𝓤 H) (s i j : ℕ) where

@@ -1,23 +1,9 @@
 -- `descriptors::reader::open` meets its contract, by a walk of its MIR. All that it knows of `begin` is that it meets its contract.
 -- A `&[u8]` is Copy, so what it owns is had three times: for the callee, for list at exit, and inside the reader inside the result.
 -- Assumes nothing.
-use Rattle.octets.proofs.Walk.{_≡_, refl, ap, [], _∷_, id⊢, URA, Heap, named, w8, w64, vint, u8, plain, now, slice-vals, Is, owed, makes, uint-makes}
-use Rattle.octets.proofs.Walk.{Known, struct, Params, slice-kept, a-truth, Scene, Walked, Meeting, scene, known, proved}
-use Rattle.octets.proofs.Walk.{ !, _$_, ‵, move, keep, drop, use1, owned, nothing, starts, lets, agg, calls, args2, args3, var, gets, field, leaves, ends}
-use types.Kit.{_⊛_, _∵_, qed, by, split, fjoin}
-use mathlib.Core.List.{List}
-use Prim.Native.Nat.{ℕ}
-use mir.Val.{vbool}
-use base.Logic.{ent}
-use base.Fml.{Fml}
-use ghost.Atoms.{sem}
-use contract.Lifetimes.{Lfts}
-use denote.Builtin.{usize, bool}
-use denote.Plain.{bool-makes}
-use denote.Ref.{RefT, NamedLft}
-use denote.Signature.{namedLft}
-use denote.Slice.{ShrSlice, shr-slice-copy}
-use denote.Struct.Rest.{own-shut}
+use Rattle.octets.proofs.Walk.{_≡_, refl, ap, List, [], _∷_, ℕ, URA, Heap, ent, id⊢, Fml, sem, Lfts, named, w8, w64, vint, vbool, u8, usize, bool, RefT, NamedLft, namedLft, plain, now, slice-vals}
+use Rattle.octets.proofs.Walk.{ShrSlice, shr-slice-copy, own-shut, Is, owed, makes, uint-makes, bool-makes, Known, struct, Params, slice-kept, a-truth, Scene, Walked, Meeting, scene, known, proved}
+use Rattle.octets.proofs.Walk.{ !, _$_, _∵_, ‵, _⊛_, qed, by, move, keep, use1, split, fjoin, owned, nothing, starts, lets, agg, calls, args2, args3, var, gets, field, leaves, ends}
 use Rattle.descriptors.specs.Steps.{begunOf}
 use Rattle.descriptors.specs.declared.cursor.Begun.{Begun}
 use Rattle.descriptors.specs.declared.cursor.Cursor.{Cursor}
@@ -75,10 +61,14 @@ module _ (κs : Lfts 1) (s : RefT (List ℕ)) where
   abbrev made : Begun → Opened
   made r = record { number = r .number; count = r .count; reader = reader (r .place) }
 
+  -- what it owns
+  abbrev Made : Begun → Fml
+  Made r = O.the-row α .own (made r) (struct (O.the-type α) (O′.the-laws α) .val (made r) ∷ [])
+
 module _ {M : Type 1} (𝓤 : URA M) (H : Heap 𝓤) (w : Scene 𝓤 H) where
   -- of what list owns: what the reader owns, and of that, what the result owns
   made-owned : (κs : Lfts 1) (s : RefT (List ℕ)) (r : Begun) → Is G.the-row r (begun .val r ∷ [])
-      → ent 𝓤 (sem 𝓤 H (w .A) (Own κs s)) (sem 𝓤 H (w .A) (O.the-row (α κs s) .own (made κs s r) (struct (O.the-type (α κs s)) (O′.the-laws (α κs s)) .val (made κs s r) ∷ [])))
+      → ent 𝓤 (sem 𝓤 H (w .A) (Own κs s)) (sem 𝓤 H (w .A) (Made κs s r))
   made-owned κs s r is =
       let β : NamedLft = α κs s in
       qed (w .W) (‵ (Own κs s) ∷ []) ∵
@@ -106,7 +96,7 @@ module _ {M : Type 1} (𝓤 : URA M) (H : Heap 𝓤) (w : Scene 𝓤 H) where
         lets ! 0 (agg ! (args3 ! (field ! 4 0 refl) (field ! 4 1 refl) (var ! 5 refl))) refl (tt, (wt .0 .1 .0, (wt .0 .1 .1 .0, ((ts .0 .1, (wt .0 .1 .1 .1 .0, tt)), tt)))) $
         -- the function returns
         leaves ! refl refl $
-        move ! (2 ∷ []) $ use1 (w .W) (‵ (O.the-row (α κs (a .0)) .own (made κs (a .0) r) (struct (O.the-type (α κs (a .0))) (O′.the-laws (α κs (a .0))) .val (made κs (a .0) r) ∷ []))) (made-owned κs (a .0) r is) $
+        move ! (2 ∷ []) $ use1 (w .W) (‵ (Made κs (a .0) r)) (made-owned κs (a .0) r is) $
         owned ! bool (Is bool) (bool-makes 𝓤 H (w .A) (w .W)) (a .1 .0) _ (are .1 .0) $ owned ! bool (Is bool) (bool-makes 𝓤 H (w .A) (w .W)) (a .1 .1 .0) _ (are .1 .1 .0) $
         keep ! (3 ∷ 5 ∷ 1 ∷ 0 ∷ 2 ∷ []) $
         ends w here.ended params (here.clauses 𝓤 H) κs qs bounds a g (made κs (a .0) r) _ (tt, (tt, (tt, tt))) (tt, (tt, (tt, tt))) (ap (made κs (a .0)) e) (id⊢ 𝓤 _))

@@ -47,14 +47,15 @@ module _ {M : Type 1} (𝓤 : URA M) (H : Heap 𝓤) (w : Scene 𝓤 H) (seals :
       starts w here.ended params (here.clauses 𝓤 H) κs qs bounds a g code.function are (λ t. t) (λ bs ts.
       -- [s's token; the strings' five tokens; what s owns; what each string owns; ..]: s is opened
       move ! (6 ∷ 0 ∷ []) $ opened ! tt session (a .0) (λ is wt.
-      -- [the session's cell; what it owns; the open borrow; two of its name; the five tokens; what each string owns; ..]: the session is copied, and out is lent on
+      -- [the session's cell; what it owns; the open borrow; two of its name; the five tokens; what each string owns; ..]: the session is copied, out is lent on
       lets ! 7 (of-opd ! (behind ! 1 0 refl)) refl (wt .0) $
       relends ! 6 9 10 (refl, (refl, (refl, (refl, refl)))) tt (ts .1 .1 .1 .1 .1 .0) $
       -- `seal_by` is called with the copy and the strings
       move ! (5 ∷ 6 ∷ 7 ∷ 8 ∷ 9 ∷ 1 ∷ 10 ∷ 11 ∷ 12 ∷ 13 ∷ 14 ∷ []) $
       calls w value.ended (value.clauses 𝓤 H) (κs .1) (qs .1) tt (now (a .0), a .1)
       (session .val (now (a .0)) ∷ [], (slice-vals (a .1 .0), (slice-vals (a .1 .1 .0), (slice-vals (a .1 .1 .1 .0), (slice-vals (a .1 .1 .1 .1 .0), (slice-vals (a .1 .1 .1 .1 .1 .0), tt)))))) tt
-      sealed (λ r ws. sealNextAnswer (now (a .0)) (now (a .1 .0)) (now (a .1 .1 .0)) (now (a .1 .1 .1 .0)) (now (a .1 .1 .1 .1 .0)) (now (a .1 .1 .1 .1 .1 .0)) ≡ (r .number, ws .1 .1 .1 .1 .1 .0, r .session))
+      sealed (λ r ws. sealNextAnswer (now (a .0)) (now (a .1 .0)) (now (a .1 .1 .0)) (now (a .1 .1 .1 .0)) (now (a .1 .1 .1 .1 .0)) (now (a .1 .1 .1 .1 .1 .0))
+      ≡ (r .number, ws .1 .1 .1 .1 .1 .0, r .session))
       ! seals (args6 ! (var ! 7 refl) (var ! 2 refl) (var ! 3 refl) (var ! 4 refl) (var ! 5 refl) (var ! 10 refl)) (λ r ws e is wt.
       gets ! 8 refl (wt .0) $
       -- [the five tokens; out's last list; what the result owns; the session's cell; the open borrow; two of its name; ..]: the result's session is stored, and its number is handed back
