@@ -1,4 +1,4 @@
-/* What the C tests share: cases of words in hex, one a line, and the count of what passed. */
+/* What the C tests share: the count of what passed, and words in hex. */
 #ifndef CASES_H
 #define CASES_H
 
