@@ -56,8 +56,7 @@ pub fn encrypt_from(t: &Tables, ks: &RoundKeys, s: Start, low: u8) -> Halves
 }
 
 pub fn encrypt_two_from(t: &Tables, ks: &RoundKeys, s: Start, low: u8, next: u8) -> Both
-    ensures { λ r. ⌜ halvesBlock (r .one) ≡ cipherFrom (now (t .entry)) (now (ks .entry)) s low ⌝ }
-    ensures { λ r. ⌜ halvesBlock (r .other) ≡ cipherFrom (now (t .entry)) (now (ks .entry)) s next ⌝ }
+    ensures { λ r. ⌜ (halvesBlock (r .one) ≡ cipherFrom (now (t .entry)) (now (ks .entry)) s low) × (halvesBlock (r .other) ≡ cipherFrom (now (t .entry)) (now (ks .entry)) s next) ⌝ }
 {
     let both = Both {
         one: begun(t, s, low),
@@ -68,8 +67,7 @@ pub fn encrypt_two_from(t: &Tables, ks: &RoundKeys, s: Start, low: u8, next: u8)
 
 // Any block, beside one that begins with others.
 pub fn encrypt_beside(t: &Tables, ks: &RoundKeys, b: Halves, s: Start, low: u8) -> Both
-    ensures { λ r. ⌜ halvesBlock (r .one) ≡ cipherBy (now (t .entry)) (now (ks .entry)) (halvesBlock b) ⌝ }
-    ensures { λ r. ⌜ halvesBlock (r .other) ≡ cipherFrom (now (t .entry)) (now (ks .entry)) s low ⌝ }
+    ensures { λ r. ⌜ (halvesBlock (r .one) ≡ cipherBy (now (t .entry)) (now (ks .entry)) (halvesBlock b)) × (halvesBlock (r .other) ≡ cipherFrom (now (t .entry)) (now (ks .entry)) s low) ⌝ }
 {
     let x = add_halves(b, halves_of(ks[0]));
     let y = round(t, x, halves_of(ks[1]));

@@ -10,15 +10,11 @@ use Rattle.octets.specs.Bytes.{Bytes}
 use Rattle.octets.specs.Xor.{xors}
 use Rattle.octets.specs.Blocks.{blocks, fill, cutInto, cut, chain}
 use Rattle.octets.proofs.Values.{cons-equal}
-use Rattle.octets.proofs.Bytes.{bytes-append, bytes-zeros}
 
 -- ---- a block or less, filled
 
 pub length-fill : (b : List ℕ) → length b ≤ 16 → length (fill b) ≡ 16
 length-fill b h = simp (length-append, length-replicate) (omega arith)
-
-pub bytes-fill : {b : List ℕ} → Bytes b → Bytes (fill b)
-bytes-fill {b} h = bytes-append h (bytes-zeros (16 - length b))
 
 pub fill-whole : (b : List ℕ) → length b ≡ 16 → fill b ≡ b
 fill-whole b h = ap (λ (n : ℕ). b ++ replicate (16 - n) 0) h ∙ append-nil b
