@@ -1,16 +1,15 @@
 -- The bytes that sealing writes: the front, the IV, and what the mode makes in the rest of the output.
 -- Assumes nothing.
-use mathlib.Core.Path.{_≡_, refl, sym, ap, ap₂, _∙_}
-use mathlib.Core.List.{List, [], _∷_, _++_, append-assoc, append-nil}
+use mathlib.Core.Path.{_≡_, sym, ap, ap₂, _∙_}
+use mathlib.Core.List.{List, [], _∷_, _++_, append-assoc}
 use Prim.Native.Nat.{ℕ, _+_, _-_, _≤_}
 use native.Mathlib.Omega.{arith}
-use lib.ListN.{length, take, drop, replicate, length-append, length-take, length-drop, length-replicate, drop-of-length-le}
+use lib.ListN.{length, take, drop, replicate, length-append, length-take, length-drop, length-replicate}
 use Rattle.octets.specs.BigEndian.{be}
 use Rattle.octets.specs.Values.{bytesAt}
 use Rattle.octets.specs.Lent.{over}
 use Rattle.octets.specs.Tests.{partOf}
 use Rattle.octets.proofs.Lent.{length-over, over-front, over-then}
-use Rattle.octets.proofs.Tests.{rest-all}
 use Rattle.keytable.specs.Row.{nameMax}
 use Rattle.modes.specs.Mode.{sealed}
 use Rattle.modes.specs.Calls.{encryptAnswer}

@@ -1,7 +1,7 @@
 -- A record that keeps to the layout: what each test tells, and that it is its front, its IV, its ciphertext and its tag, end to end.
 -- Assumes nothing.
-use mathlib.Core.Path.{_≡_, refl, ap, _∙_}
-use mathlib.Core.Bool.{Bool, true, false, _&&_}
+use mathlib.Core.Path.{_≡_, ap, _∙_}
+use mathlib.Core.Bool.{true, _&&_, and-true}
 use mathlib.Core.List.{List, _++_}
 use Prim.Native.Nat.{ℕ, _+_, _≤_}
 use native.Mathlib.Omega.{arith}
@@ -71,10 +71,6 @@ pub end-told : (r : List ℕ) (u k v n tag-place g : ℕ)
 end-told r u k v n tag-place g eu ek ev en et eg = rw (et, eg, ev, eu, ek, en)
 
 -- the tests one after another; both modes permit every count
-and-true : (b : Bool) → (b && true) ≡ b
-and-true true = refl
-and-true false = refl
-
 pub layout-tested : (r : List ℕ) (u v n k tag-place end-place a b c d e f h : ℕ)
     → u ≡ modeIn r → v ≡ modeOf u .ivSize → n ≡ countIn r → k ≡ nameSize r → tag-place ≡ ivAt k + v + n → end-place ≡ endIn r
     → a ≡ numberAt 2 r 0 → b ≡ getD r 3 0 → c ≡ numberAt 2 r 8 → d ≡ numberAt 2 r 12 → e ≡ numberAt 2 r 14 → f ≡ numberAt 4 r 16 → h ≡ numberAt 4 r 20

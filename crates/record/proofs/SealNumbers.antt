@@ -1,7 +1,7 @@
 -- The numbers of sealing, each by the tests that led there, and 0 with the row.
 -- Assumes nothing.
-use mathlib.Core.Path.{_≡_, refl}
-use mathlib.Core.Bool.{Bool, true, false, not, _||_}
+use mathlib.Core.Path.{_≡_}
+use mathlib.Core.Bool.{Bool, true, false, not, _||_, or-false}
 use mathlib.Core.List.{List, [], _∷_}
 use mathlib.Core.Option.{Option, some, none}
 use Prim.Native.Nat.{ℕ}
@@ -17,10 +17,6 @@ use Rattle.record.proofs.Lengths.{tooLong}
 -- no name, or an IV of another length than that of the row's use
 abbrev pub wrongLength : Option (List ℕ) → List ℕ → List ℕ → Bool
 wrongLength row name iv = eqb (length name) 0 || isNot (modeOf (useIn row) .ivSize) iv
-
-or-false : (b : Bool) → (b || false) ≡ b
-or-false true = refl
-or-false false = refl
 
 -- the tests before the row's own are passed
 pub record SealMeasured (ok : Bool) (row : Option (List ℕ)) (name iv a : List ℕ) (n room : ℕ) : Type 0 where
