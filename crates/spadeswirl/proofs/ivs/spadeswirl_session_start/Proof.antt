@@ -1,8 +1,8 @@
 -- `spadeswirl::ivs::spadeswirl_session_start` meets its contract, by a walk of its MIR. All that it knows of `session::start_numbered` is that it meets its contract.
 -- Assumes nothing.
-use Rattle.octets.proofs.Walk.{_≡_, refl, sym, ap, [], _∷_, id⊢, URA, Heap, w8, w32, w64, vint, u8, plain, Is, makes, uint-makes}
-use Rattle.octets.proofs.Walk.{Known, struct, number, Params, lent, a-number, Scene, Walked, Meeting, scene, known, proved}
-use Rattle.octets.proofs.Walk.{ !, _$_, move, keep, drop, owned, starts, opened, lets, of-opd, lit, calls, args2, var, gets, stores, closed, leaves, ends}
+use Rattle.octets.proofs.Walk.{_≡_, refl, sym, ap, [], _∷_, id⊢, URA, Heap, w8, w32, w64, vint, u8, plain, Is, uint-makes}
+use Rattle.octets.proofs.Walk.{Known, struct, Params, lent, a-number, Scene, Walked, Meeting, scene, known, proved}
+use Rattle.octets.proofs.Walk.{ !, _$_, move, keep, owned, starts, opened, lets, of-opd, lit, calls, args2, var, gets, stores, closed, leaves, ends}
 use lib.Dec.{lit<}
 use denote.Builtin.{u32, u64}
 use Rattle.octets.specs.BigEndian.{be}
