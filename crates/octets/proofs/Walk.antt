@@ -3,7 +3,7 @@
 --     Parameters       how each parameter stands on entry and at exit: `lent`, `passed-on`, `slice-passed-on`, `slice-over`, `slice-kept`, `a-number`, `a-truth`
 --     Ends             `starts` and `ends`.        Locals      `leaves`: the function returns
 --     Steps            the statements: `lets`, `stores`, `relends`; and their operands: `var`, `field`, `behind`
---     Lent             `opened`, `closed`, `learnt`.        Callees     `calls`, and then `gets` of Steps for the result
+--     Lent             `opened`, `closed`, `counted`, `plainly`, `learnt`.        Callees     `calls`, and then `gets` of Steps for the result
 --     Proved           `proved`: the walk is the function's theorem
 -- The kit's names that a walk needs beside these are passed on below.
 pub mod Locals
@@ -17,9 +17,9 @@ pub mod Proved
 pub use Locals.{leaves}
 pub use Steps.{var, field, behind, behind-field, again, args1, args2, args3, args6, lets, gets, stores, stores-field, relends}
 pub use Parameters.{Known, struct, number, truth, reference, slice-lent, slice-read, Param, Params, lent, passed-on, slice-passed-on, slice-over, slice-kept, a-number, a-truth}
-pub use Ends.{Scene, Walked, starts, ends}
+pub use Ends.{Scene, of-type, Walked, starts, ends}
 pub use Callees.{Meeting, calls}
-pub use Lent.{opened, closed, learnt}
+pub use Lent.{opened, closed, counted, plainly, learnt}
 pub use Proved.{scene, known, proved}
 pub use mathlib.Core.Path.{_≡_, refl, sym, ap, _∙_, subst}
 pub use mathlib.Core.List.{List, [], _∷_}

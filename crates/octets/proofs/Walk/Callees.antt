@@ -1,6 +1,7 @@
 -- A call in a walk, by the callee's contract.
 --     Meeting          the callee that the scene's table of calls has under a name meets its contract: all that a walk knows of it
 --     calls            it takes [the tokens; what each argument owns] and leaves [the tokens; what is said of each last value; what the result owns], with the fact that it ensures
+-- The last two arguments of `calls` say that the callee requires nothing, and that what it ensures is the fact that the walk names. Both are `id⊢`.
 -- Assumes nothing but what a `Scene` holds.
 use mathlib.Core.Path.{sym, ap, subst}
 use mathlib.Core.List.{List, [], _∷_}

@@ -1,5 +1,6 @@
 -- The two ends of a walk.
 --     Scene            over what a walk goes: the ghost state with its rules, what calls and loops mean, and that calls are monotone under a frame
+--     of-type          a machine value is of its MIR type, as a store asks
 --     Walked           what a walk shows: from what there is on entry, the function's MIR runs to the end of a walk (the kit's `walkOf`)
 --     starts           a walk begins: [the tokens; what each parameter owns; the locals]
 --     ends             it ends, at a result and last values that are named: [the tokens; what is had of each parameter; what the result owns]
@@ -19,12 +20,12 @@ use contract.Lifetimes.{toks}
 use types.Kit.{Given, Item, ‵, ⋆, prop, runs, atRet, Seq, Go, !, by}
 use sound.WpLaws.{FmC}
 use denote.RattleType.{RattleType, flat, mirs, owns}
-use denote.Laws.{Are, Ises, Typed, valss, all-typed}
+use denote.Laws.{Is, Are, Ises, Typed, valss, all-typed}
 use denote.Triple.Entry.{Args, Vals, Res, onEntry}
 use denote.Triple.Clauses.{Ended, Clauses, Lasts, atExit}
 use denote.Triple.Walked.{Fit, onExit, walkOf, ends-at}
 use Rattle.octets.proofs.Walk.Locals.{Blocks, Arguments, envOf, deaths, cells, stored, begins}
-use Rattle.octets.proofs.Walk.Parameters.{Params, stays, spell, all-lawful, had-on, had-gives}
+use Rattle.octets.proofs.Walk.Parameters.{Known, Params, stays, spell, all-lawful, had-on, had-gives}
 use Rattle.octets.proofs.Walk.Entries.{Lives, Parts, Outlive, Rows, Result, tokens, owned-by, tokens-in, tokens-out, owned-in}
 
 pub record Scene {M : Type 1} (𝓤 : URA M) (H : Heap 𝓤) : Type 2 where
@@ -35,6 +36,10 @@ pub record Scene {M : Type 1} (𝓤 : URA M) (H : Heap 𝓤) : Type 2 where
   pub C : Calls 𝓤 H
   pub Λ : Loops 𝓤 H
   pub fm : FmC 𝓤 H (W .laws) C
+
+-- a machine value is of its MIR type
+pub of-type : {M : Type 1} {𝓤 : URA M} {H : Heap 𝓤} (w : Scene 𝓤 H) {R : RattleType} (N : Known R) (x : R .Denot) → Is R x (N .val x ∷ []) → Typed (R .mir) (N .val x ∷ [])
+of-type {𝓤 = 𝓤} {H = H} w N x is = N .lawful 𝓤 H (w .A) (w .W) .typed x (N .val x ∷ []) is
 
 -- a function's clauses, at any ghost state
 abbrev pub Says : {M : Type 1} (𝓤 : URA M) → Ended → Type 2

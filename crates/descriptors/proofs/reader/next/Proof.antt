@@ -1,10 +1,10 @@
 -- `descriptors::reader::next` meets its contract, by a walk of its MIR. All that it knows of `advance_at` and `part_at` is that each meets its contract.
 -- The reader holds a `&`, so it is Copy: what it owns gives each callee its part, and is kept for the reader that is left (`Held.antt`).
 -- Assumes nothing.
-use Rattle.octets.proofs.Walk.{_≡_, refl, sym, ap, _∙_, List, [], _∷_, ℕ, URA, Heap, id⊢, fullShare, fat, cellAt, Lfts, named, erased, w8, w64, vint, u8, usize, RefT, NamedLft, namedLft, Slot, plain}
-use Rattle.octets.proofs.Walk.{ptr, now, slice-vals, own-shut, Is, owed, makes, uint-makes, Known, struct, slice-read, Params, lent, Scene, Walked, Meeting, scene, known, proved}
-use Rattle.octets.proofs.Walk.{ !, _$_, ‵, _⊛_, move, keep, use1, split, fjoin, owned, nothing, starts, opened, lets, of-opd, behind-field, agg, calls, args2, args3, var, field, gets, stores-field}
-use Rattle.octets.proofs.Walk.{closed, leaves, ends}
+use Rattle.octets.proofs.Walk.{_≡_, refl, sym, ap, _∙_, List, [], _∷_, ℕ, URA, Heap, id⊢, fullShare, fat, cellAt, Lfts, named, erased, w8, w64, vint, u8, RefT, NamedLft, namedLft, Slot, plain}
+use Rattle.octets.proofs.Walk.{ptr, now, slice-vals, own-shut, owed, Known, struct, slice-read, Params, lent, Scene, of-type, Walked, Meeting, scene, known, proved}
+use Rattle.octets.proofs.Walk.{ !, _$_, ‵, _⊛_, move, keep, counted, plainly, use1, split, fjoin, nothing, starts, opened, lets, of-opd, behind-field, agg, calls, args2, args3, var, field, gets}
+use Rattle.octets.proofs.Walk.{stores-field, closed, leaves, ends}
 use Prim.Native.Nat.{_-_}
 use Rattle.octets.specs.Places.{Placed, placed, partIn}
 use Rattle.descriptors.specs.Steps.{advanceOf}
@@ -78,17 +78,17 @@ module _ {M : Type 1} (𝓤 : URA M) (H : Heap 𝓤) (w : Scene 𝓤 H)
       lets ! 4 (of-opd ! (behind-field ! 1 0 1 refl)) refl (tt, wt .0 .1 .1 .0) $
       -- `advance_at` is called with both
       move ! (1 ∷ []) $ use1 (w .W) (‵ (List-own (α κs) h) ⊛ ‵ (Own (α κs) h)) (list-out (α κs) 𝓤 H (w .A) (w .W) h) $ split ! $
-      owned ! C.the-row (Is C.the-row) (makes C.the-type C′.the-plain 𝓤 H (w .A)) (h .place) _ (owed (T.the-type (α κs)) (T′.the-laws (α κs)) h _ is .1 .0) $
+      plainly ! C.the-type C′.the-laws C′.the-plain (h .place) (owed (T.the-type (α κs)) (T′.the-laws (α κs)) h _ is .1 .0) $
       move ! (7 ∷ 1 ∷ 0 ∷ []) $
       calls w adv.ended (adv.clauses 𝓤 H) (κs .1) (qs .1) tt (h .list, (h .place, tt)) (slice-vals (h .list), (cursor .val (h .place) ∷ [], tt)) tt
       advance (λ r ws. r ≡ advanceOf (now (h .list)) (h .place)) ! advances (args2 ! (var ! 2 refl) (var ! 4 refl)) (λ r ws e is wt.
       gets ! 3 refl (wt .0) $
       -- ['a's token; what the result owns; what the reader owns; its cell; the open borrow; two of its name; ..]: the cursor is stored
-      stores-field ! 1 3 1 (of-opd ! (field ! 3 3 refl)) refl (cursor .lawful 𝓤 H (w .A) (w .W) .typed (r .next) _ (next-is r _ is) .0) $
+      stores-field ! 1 3 1 (of-opd ! (field ! 3 3 refl)) refl (of-type w cursor (r .next) (next-is r _ is) .0) $
       -- `part_at` is called with the list and the result's two places
       move ! (2 ∷ []) $ use1 (w .W) (‵ (List-own (α κs) h) ⊛ ‵ (Own (α κs) h)) (list-out (α κs) 𝓤 H (w .A) (w .W) h) $ split ! $
-      owned ! usize (Is usize) (uint-makes 𝓤 H (w .A) (w .W) w64) (r .end) _ (refl, end-fits r _ is) $
-      owned ! usize (Is usize) (uint-makes 𝓤 H (w .A) (w .W) w64) (r .from) _ (refl, from-fits r _ is) $
+      counted ! w64 (r .end) (refl, end-fits r _ is) $
+      counted ! w64 (r .from) (refl, from-fits r _ is) $
       move ! (4 ∷ 2 ∷ 0 ∷ 1 ∷ []) $
       calls w part.ended (part.clauses 𝓤 H) (κs .1) (qs .1) tt (h .list, (r .from, (r .end, tt))) (slice-vals (h .list), (vint w64 (r .from) ∷ [], (vint w64 (r .end) ∷ [], tt))) tt
       (slice-read (named 0) (κs .1 .0) u8) (λ p ws. placed p ≡ partIn (placed (h .list)) (r .from) (r .end - r .from)) ! parts
@@ -102,7 +102,7 @@ module _ {M : Type 1} (𝓤 : URA M) (H : Heap 𝓤) (w : Scene 𝓤 H)
       (w .W .laws .at-raw fullShare (T′.mir erased) (ptr (a .0) .0) (ptr (a .0) .1) (mach (α κs) (moved h (r .next)))) $
       move ! (0 ∷ 1 ∷ 5 ∷ 6 ∷ 7 ∷ []) $ closed ! tt (reader κs) (a .0) (moved h (r .next)) $
       -- [what the borrow owns; its token; 'a's token; what the part owns; ..]: the function returns, with what the part owns inside what the result owns
-      leaves ! refl refl $ nothing ! $ move ! (4 ∷ 0 ∷ []) $ fjoin ! $ owned ! u8 (Is u8) (uint-makes 𝓤 H (w .A) (w .W) w8) (r .number) _ (refl, number-fits r _ is) $ fjoin ! $
+      leaves ! refl refl $ nothing ! $ move ! (4 ∷ 0 ∷ []) $ fjoin ! $ counted ! w8 (r .number) (refl, number-fits r _ is) $ fjoin ! $
       use1 (w .W) (‵ (S.the-row (α κs) .own (made (r .number) p) (shown κs .val (made (r .number) p) ∷ [])))
       (own-shut 𝓤 H (w .A) (w .W) (S.the-type (α κs)) (S′.the-laws (α κs)) (r .number, (p, tt))) $
       keep ! (2 ∷ 3 ∷ 1 ∷ 0 ∷ []) $

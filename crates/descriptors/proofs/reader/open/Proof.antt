@@ -2,8 +2,8 @@
 -- A `&[u8]` is Copy, so what it owns is had three times: for the callee, for list at exit, and inside the reader inside the result.
 -- Assumes nothing.
 use Rattle.octets.proofs.Walk.{_≡_, refl, ap, List, [], _∷_, ℕ, URA, Heap, ent, id⊢, Fml, sem, Lfts, named, w8, w64, vint, vbool, u8, usize, bool, RefT, NamedLft, namedLft, plain, now, slice-vals}
-use Rattle.octets.proofs.Walk.{ShrSlice, shr-slice-copy, own-shut, Is, owed, makes, uint-makes, bool-makes, Known, struct, Params, slice-kept, a-truth, Scene, Walked, Meeting, scene, known, proved}
-use Rattle.octets.proofs.Walk.{ !, _$_, _∵_, ‵, _⊛_, qed, by, move, keep, use1, split, fjoin, owned, nothing, starts, lets, agg, calls, args2, args3, var, gets, field, leaves, ends}
+use Rattle.octets.proofs.Walk.{ShrSlice, shr-slice-copy, own-shut, Is, owed, bool-makes, Known, struct, Params, slice-kept, a-truth, Scene, Walked, Meeting, scene, known, proved}
+use Rattle.octets.proofs.Walk.{ !, _$_, _∵_, ‵, _⊛_, qed, by, move, keep, counted, plainly, use1, split, fjoin, owned, nothing, starts, lets, agg, calls, args2, args3, var, gets, field, leaves, ends}
 use Rattle.descriptors.specs.Steps.{begunOf}
 use Rattle.descriptors.specs.declared.cursor.Begun.{Begun}
 use Rattle.descriptors.specs.declared.cursor.Cursor.{Cursor}
@@ -72,11 +72,11 @@ module _ {M : Type 1} (𝓤 : URA M) (H : Heap 𝓤) (w : Scene 𝓤 H) where
   made-owned κs s r is =
       let β : NamedLft = α κs s in
       qed (w .W) (‵ (Own κs s) ∷ []) ∵
-      nothing ! $ owned ! C.the-row (Is C.the-row) (makes C.the-type C′.the-plain 𝓤 H (w .A)) (r .place) _ (place-is r is) $ fjoin ! $ move ! (1 ∷ 0 ∷ []) $ fjoin ! $
+      nothing ! $ plainly ! C.the-type C′.the-laws C′.the-plain (r .place) (place-is r is) $ fjoin ! $ move ! (1 ∷ 0 ∷ []) $ fjoin ! $
       use1 (w .W) (‵ (T.the-row β .own (reader κs s (r .place)) (struct (T.the-type β) (T′.the-laws β) .val (reader κs s (r .place)) ∷ [])))
       (own-shut 𝓤 H (w .A) (w .W) (T.the-type β) (T′.the-laws β) (s, (r .place, tt))) $
-      nothing ! $ move ! (1 ∷ 0 ∷ []) $ fjoin ! $ owned ! usize (Is usize) (uint-makes 𝓤 H (w .A) (w .W) w64) (r .count) _ (count-is r is) $ fjoin ! $
-      owned ! u8 (Is u8) (uint-makes 𝓤 H (w .A) (w .W) w8) (r .number) _ (number-is r is) $ fjoin ! $
+      nothing ! $ move ! (1 ∷ 0 ∷ []) $ fjoin ! $ counted ! w64 (r .count) (count-is r is) $ fjoin ! $
+      counted ! w8 (r .number) (number-is r is) $ fjoin ! $
       by ! (own-shut 𝓤 H (w .A) (w .W) (O.the-type β) (O′.the-laws β) (r .number, (r .count, (reader κs s (r .place), tt))))
 
   module _ (begins : Meeting w begin.ended (begin.clauses 𝓤 H) begin-def.name) where

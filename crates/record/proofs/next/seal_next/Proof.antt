@@ -1,8 +1,8 @@
 -- `record::next::seal_next` meets its contract, by a walk of its MIR. All that it knows of `seal_by` is that it meets its contract.
 -- Assumes nothing.
-use Rattle.octets.proofs.Walk.{_≡_, refl, [], _∷_, id⊢, URA, Heap, w8, vint, u8, plain, now, slice-vals, Is, owed, makes, uint-makes}
-use Rattle.octets.proofs.Walk.{Known, struct, number, Params, lent, slice-over, slice-passed-on, Scene, Walked, Meeting, scene, known, proved}
-use Rattle.octets.proofs.Walk.{ !, _$_, move, keep, owned, starts, opened, lets, of-opd, behind, relends, calls, args6, var, gets, stores, field, closed, learnt, leaves, ends}
+use Rattle.octets.proofs.Walk.{_≡_, refl, [], _∷_, id⊢, URA, Heap, w8, vint, u8, plain, now, slice-vals, Is, owed}
+use Rattle.octets.proofs.Walk.{Known, struct, number, Params, lent, slice-over, slice-passed-on, Scene, of-type, Walked, Meeting, scene, known, proved}
+use Rattle.octets.proofs.Walk.{ !, _$_, move, keep, counted, plainly, starts, opened, lets, of-opd, behind, relends, calls, args6, var, gets, stores, field, closed, learnt, leaves, ends}
 use Rattle.session.proofs.Session as T
 use Rattle.session.proofs.Session.Laws as T′
 use Rattle.record.specs.Next.{sealNextAnswer}
@@ -59,14 +59,14 @@ module _ {M : Type 1} (𝓤 : URA M) (H : Heap 𝓤) (w : Scene 𝓤 H) (seals :
       ! seals (args6 ! (var ! 7 refl) (var ! 2 refl) (var ! 3 refl) (var ! 4 refl) (var ! 5 refl) (var ! 10 refl)) (λ r ws e is wt.
       gets ! 8 refl (wt .0) $
       -- [the five tokens; out's last list; what the result owns; the session's cell; the open borrow; two of its name; ..]: the result's session is stored, and its number is handed back
-      stores ! 1 7 (of-opd ! (field ! 8 1 refl)) refl (session .lawful 𝓤 H (w .A) (w .W) .typed (r .session) _ (session-is r is) .0) $
-      lets ! 0 (of-opd ! (field ! 8 0 refl)) refl (number w8 .lawful 𝓤 H (w .A) (w .W) .typed (r .number) _ (number-is r is) .0) $
+      stores ! 1 7 (of-opd ! (field ! 8 1 refl)) refl (of-type w session (r .session) (session-is r is) .0) $
+      lets ! 0 (of-opd ! (field ! 8 0 refl)) refl (of-type w (number w8) (r .number) (number-is r is) .0) $
       -- s is closed at that session
-      owned ! T.the-row (Is T.the-row) (makes T.the-type T′.the-plain 𝓤 H (w .A)) (r .session) _ (session-is r is) $
+      plainly ! T.the-type T′.the-laws T′.the-plain (r .session) (session-is r is) $
       move ! (8 ∷ 0 ∷ 9 ∷ 10 ∷ 11 ∷ []) $ closed ! tt session (a .0) (r .session) $
       -- [what s owns; its token; the five tokens; out's last list; what the result owns; ..]: the function returns
       move ! (7 ∷ []) $ learnt ! (λ l. leaves ! refl refl $
-      owned ! u8 (Is u8) (uint-makes 𝓤 H (w .A) (w .W) w8) (r .number) _ (number-is r is) $ keep ! (3 ∷ 4 ∷ 5 ∷ 6 ∷ 7 ∷ 8 ∷ 2 ∷ 1 ∷ 0 ∷ []) $
+      counted ! w8 (r .number) (number-is r is) $ keep ! (3 ∷ 4 ∷ 5 ∷ 6 ∷ 7 ∷ 8 ∷ 2 ∷ 1 ∷ 0 ∷ []) $
       ends w here.ended params (here.clauses 𝓤 H) κs qs bounds a g (r .number) _ (r .session, (tt, (tt, (tt, (tt, (ws .1 .1 .1 .1 .1 .0, tt)))))) (tt, (tt, (tt, (tt, (tt, (l, tt)))))) e (id⊢ 𝓤 _)))
       (id⊢ 𝓤 _) (λ r ws. id⊢ 𝓤 _)))
 

@@ -1,10 +1,8 @@
 -- `spadeswirl::ivs::spadeswirl_session_start` meets its contract, by a walk of its MIR. All that it knows of `session::start_numbered` is that it meets its contract.
 -- Assumes nothing.
-use Rattle.octets.proofs.Walk.{_≡_, refl, sym, ap, [], _∷_, id⊢, URA, Heap, w8, w32, w64, vint, u8, plain, Is, uint-makes}
+use Rattle.octets.proofs.Walk.{_≡_, refl, sym, ap, [], _∷_, id⊢, URA, Heap, w8, w32, w64, lit<, vint, plain}
 use Rattle.octets.proofs.Walk.{Known, struct, Params, lent, a-number, Scene, Walked, Meeting, scene, known, proved}
-use Rattle.octets.proofs.Walk.{ !, _$_, move, keep, owned, starts, opened, lets, of-opd, lit, calls, args2, var, gets, stores, closed, leaves, ends}
-use lib.Dec.{lit<}
-use denote.Builtin.{u32, u64}
+use Rattle.octets.proofs.Walk.{ !, _$_, move, keep, counted, starts, opened, lets, of-opd, lit, calls, args2, var, gets, stores, closed, leaves, ends}
 use Rattle.octets.specs.BigEndian.{be}
 use Rattle.session.specs.Iv.{prefixSize, started}
 use Rattle.session.specs.declared.Session.{Session}
@@ -42,9 +40,9 @@ module _ {M : Type 1} (𝓤 : URA M) (H : Heap 𝓤) (w : Scene 𝓤 H) (startin
       move ! (0 ∷ 5 ∷ 2 ∷ 3 ∷ 4 ∷ []) $ closed ! tt session (a .0) r $
       -- [what s owns; its token; ..]: the function returns
       leaves ! refl refl $
-      owned ! u32 (Is u32) (uint-makes 𝓤 H (w .A) (w .W) w32) (a .1 .0) _ (are .1 .0) $
-      owned ! u64 (Is u64) (uint-makes 𝓤 H (w .A) (w .W) w64) (a .1 .1 .0) _ (are .1 .1 .0) $
-      owned ! u8 (Is u8) (uint-makes 𝓤 H (w .A) (w .W) w8) 0 _ (refl, lit< tt) $ keep ! (4 ∷ 3 ∷ 2 ∷ 1 ∷ 0 ∷ []) $
+      counted ! w32 (a .1 .0) (are .1 .0) $
+      counted ! w64 (a .1 .1 .0) (are .1 .1 .0) $
+      counted ! w8 0 (refl, lit< tt) $ keep ! (4 ∷ 3 ∷ 2 ∷ 1 ∷ 0 ∷ []) $
       ends w here.ended params (here.clauses 𝓤 H) κs qs bounds a g 0 _ (r, (tt, (tt, tt))) (tt, (tt, (tt, tt))) (ap (λ (s : Session). (0, s)) (sym e)) (id⊢ 𝓤 _)))
       (id⊢ 𝓤 _) (λ r ws. id⊢ 𝓤 _))
 
