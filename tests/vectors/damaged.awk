@@ -5,7 +5,7 @@ function with(at, word,    i, s) { for (i = 1; i <= NF; i++) s = s (i == 1 ? "" 
 
 /^#/ || NF == 0 { print; next }
 {
-    way = (NR + turn) % 24
+    way = (NR + turn) % 26
     at = 3 + NR % (NF - 2)
     half = int(length($at) / 4) * 2
     if (way == 0) print without(at)
@@ -20,10 +20,10 @@ function with(at, word,    i, s) { for (i = 1; i <= NF; i++) s = s (i == 1 ? "" 
     else if (way == 9) print with(at, $at "00")
     else if (way == 10) print with(at, "-")
     else if (way == 11) print with(at, "--")
-    else if (way == 12) print with(2, $2 == "E" ? "D" : "E")
-    else if (way == 13) print with(2, tolower($2))
-    else if (way == 14) print with(2, $2 "E")
-    else if (way == 15) print with(1, "x" $1)
+    else if (way == 12) print with(2, $2 ~ /crypt/ ? ($2 ~ /en/ ? "gcm_decrypt" : "ccm_encrypt") : "wrap")
+    else if (way == 13) print with(2, toupper($2))
+    else if (way == 14) print with(2, $2 "_1000")
+    else if (way == 15) print with(2, substr($2, 2))
     else if (way == 16) print $0 "\r"
     else if (way == 17) print with(at, substr($at, 1, half) "\t" substr($at, half + 2))
     else if (way == 18) { gsub(/ /, "\t"); print }
@@ -31,5 +31,7 @@ function with(at, word,    i, s) { for (i = 1; i <= NF; i++) s = s (i == 1 ? "" 
     else if (way == 20) print "#" $0
     else if (way == 21) print with(1, $1 "#")
     else if (way == 22) print with(at, "0x" substr($at, 3))
+    else if (way == 23) print with(NF, $NF - 1)
+    else if (way == 24) print with(NF, "0" $NF)
     else print $1, $2
 }

@@ -1,14 +1,13 @@
 -- The answer to an input, by the tests that are made of it.
 -- Assumes nothing.
-use mathlib.Core.Path.{_≡_, refl, sym, ap, _∙_}
+use mathlib.Core.Path.{_≡_, refl, ap, _∙_}
 use mathlib.Core.Bool.{Bool, true, false}
 use mathlib.Core.List.{List}
-use Prim.Native.Nat.{ℕ, _+_, _≤_, _<_}
+use Prim.Native.Nat.{ℕ, _≤_, _<_}
 use native.Mathlib.Omega.{arith}
 use lib.Dec.{leb}
 use lib.ListN.{length, replicate, length-replicate}
 use borrow.Author.Tests.{leb-true, leb-false, lt-ltb, le-ltb}
-use Rattle.octets.specs.Lent.{over}
 use Rattle.wording.proofs.Wrote.{wrote-front}
 use Rattle.cases.specs.Parts.{Put}
 use Rattle.cases.specs.Run.{runText, inputMax, runMax, noText, runNumber, runAnswer}

@@ -9,7 +9,7 @@ use native.Mathlib.Omega.{arith}
 use lib.Dec.{leb}
 use lib.ListN.{length, length-append, take-append-drop}
 use borrow.Author.Tests.{leb-true, leb-false}
-use Rattle.wording.specs.Writing.{nowhere, putAt, Wrote}
+use Rattle.wording.specs.Writing.{nowhere, putAt}
 use Rattle.wording.proofs.Wrote.{put-not, put-fits, wrote-length, wrote-then}
 use Rattle.cases.specs.Parts.{Put, SoFar}
 use Rattle.cases.specs.Run.{runMax}

@@ -11,7 +11,7 @@ use Rattle.octets.specs.Tests.{every, all}
 use Rattle.wording.specs.Ascii.{ascii}
 use Rattle.wording.specs.Decimal.{decimal}
 use Rattle.wording.specs.Hex.{digitsOf}
-use Rattle.wording.specs.Lines.{space, newline, line}
+use Rattle.wording.specs.Lines.{space, line}
 use Rattle.cases.specs.Words.{partsAfter, wordsOf, wordAt, someBytes}
 use Rattle.cases.specs.Strings.{isBytes, bytesIn, isLent, lentIn}
 use Rattle.cases.specs.Calls.{Call, calls, callCount, noCall, callNamed}

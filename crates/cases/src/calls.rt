@@ -9,7 +9,7 @@ ghost use Rattle.octets.specs.Lent.{when};
 ghost use Rattle.octets.specs.Same.{same};
 ghost use Rattle.cases.specs.Calls.{calls, callCount, noCall, callNamed, repeated, blockRounds};
 
-const CALLS: usize = 10;
+pub(crate) const CALLS: usize = 10;
 
 const BLOCK_ROUNDS: usize = 1000;
 

@@ -1,4 +1,5 @@
 // One line: what it says. specs/Line.antt has the text.
+use crate::calls::CALLS;
 use crate::calls::call;
 use crate::calls::call_named;
 use crate::calls::strings_of;
@@ -22,8 +23,6 @@ ghost use Rattle.cases.specs.Line.{digitsShown, answerText, isComment, w
 ghost use Rattle.cases.specs.Parts.{Put};
 ghost use Rattle.cases.specs.Strings.{wordMax};
 ghost use Rattle.cases.specs.Run.{runMax};
-
-const CALLS: usize = 10;
 
 // An empty line, or one that begins with `#`.
 fn is_comment(line: &[u8]) -> bool

@@ -1,6 +1,5 @@
 -- `cases::lines::words_right` meets its contract.
 -- Assumes nothing.
-use mathlib.Core.Path.{sym, ap, _∙_}
 use native.Mathlib.Omega.{arith}
 use Prim.Native.Nat.{_+_}
 use lib.Dec.{ltb}

@@ -1,10 +1,8 @@
 -- `cases::strings::read_word` meets its contract.
 -- Assumes nothing.
-use mathlib.Core.Path.{_≡_, sym, _∙_}
-use mathlib.Core.Bool.{false}
+use mathlib.Core.Path.{sym, _∙_}
 use borrow.Author.Needs.{needs}
 use denote.Ref.{now}
-use Rattle.cases.specs.Strings.{isDash}
 use Rattle.cases.proofs.Held.{full-size, dash-holds, refused-holds, read-holds}
 use Rattle.cases.proofs.strings.read_word.Statement.{statement}
 use Rattle.cases.proofs.strings.read_word.Tie as tie
