@@ -1,4 +1,4 @@
-pub mod Lying
+pub mod LocalLent
 pub mod Written
 pub mod Shown
 pub mod Room
