@@ -1,4 +1,3 @@
-pub mod LocalLent
 pub mod Written
 pub mod Shown
 pub mod Room

@@ -1,7 +1,7 @@
 -- A string written over the front of another, and what the answer of a call tells.
 -- Assumes nothing.
 use mathlib.Core.Path.{_≡_, refl, sym, ap, ap₂, _∙_}
-use mathlib.Core.Bool.{Bool, true, false, not, _&&_, _||_}
+use mathlib.Core.Bool.{Bool, true, false, _||_}
 use mathlib.Core.List.{List, [], _∷_, _++_, append-nil}
 use Prim.Native.Nat.{ℕ, zero, suc, _+_, _-_, _≤_, _<_, min}
 use native.Mathlib.Nat.{zero-min, min-zero, suc-min-suc}
@@ -101,11 +101,6 @@ none-above least (n ∷ ns) i h e =
 
 pub none-applies : (ns : Tests) (i : ℕ) → rises ns ≡ true → lowest ns ≡ 0 → testAt ns i ≡ false
 none-applies = none-above 0
-
--- no number of the list is 0
-abbrev pub numbered : Tests → Bool
-numbered [] = true
-numbered (n ∷ ns) = not (eqb (n .0) 0) && numbered ns
 
 -- ---- the answer 0, and what it tells
 

@@ -12,4 +12,3 @@ pub mod Tests
 pub mod Arrays
 pub mod Places
 pub mod Written
-pub mod Walk

@@ -1,10 +1,10 @@
 -- `descriptors::reader::next` meets its contract, by a walk of its MIR. All that it knows of `advance_at` and `part_at` is that each meets its contract.
 -- The reader holds a `&`, so it is Copy: what it owns gives each callee its part, and is kept for the reader that is left (`Held.antt`).
 -- Assumes nothing.
-use Rattle.octets.proofs.Walk.{_≡_, refl, sym, ap, _∙_, List, [], _∷_, ℕ, URA, Heap, id⊢, fullShare, fat, cellAt, Lfts, named, erased, w8, w64, vint, u8, RefT, NamedLft, namedLft, Slot, plain}
-use Rattle.octets.proofs.Walk.{ptr, now, slice-vals, own-shut, owed, Known, struct, slice-read, Params, lent, Scene, of-type, Walked, Meeting, scene, known, proved}
-use Rattle.octets.proofs.Walk.{ !, _$_, ‵, _⊛_, move, keep, counted, plainly, use1, split, fjoin, nothing, starts, opened, lets, of-opd, behind-field, agg, calls, args2, args3, var, field, gets}
-use Rattle.octets.proofs.Walk.{stores-field, closed, leaves, ends}
+use Rattle.walk.proofs.Walk.{_≡_, refl, sym, ap, _∙_, List, [], _∷_, ℕ, URA, Heap, id⊢, fullShare, fat, cellAt, Lfts, named, erased, w8, w64, vint, u8, RefT, NamedLft, namedLft, Slot, plain}
+use Rattle.walk.proofs.Walk.{ptr, now, slice-vals, own-shut, owed, Known, struct, slice-read, Params, lent, Scene, of-type, Walked, Meeting, scene, known, proved}
+use Rattle.walk.proofs.Walk.{ !, _$_, ‵, _⊛_, move, keep, counted, plainly, use1, split, fjoin, nothing, starts, opened, lets, of-opd, behind-field, agg, calls, args2, args3, var, field, gets}
+use Rattle.walk.proofs.Walk.{stores-field, closed, leaves, ends}
 use Prim.Native.Nat.{_-_}
 use Rattle.octets.specs.Places.{Placed, placed, partIn}
 use Rattle.descriptors.specs.Steps.{advanceOf}

@@ -1,9 +1,9 @@
 -- `descriptors::reader::open` meets its contract, by a walk of its MIR. All that it knows of `begin` is that it meets its contract.
 -- A `&[u8]` is Copy, so what it owns is had three times: for the callee, for list at exit, and inside the reader inside the result.
 -- Assumes nothing.
-use Rattle.octets.proofs.Walk.{_≡_, refl, ap, List, [], _∷_, ℕ, URA, Heap, ent, id⊢, Fml, sem, Lfts, named, w8, w64, vint, vbool, u8, usize, bool, RefT, NamedLft, namedLft, plain, now, slice-vals}
-use Rattle.octets.proofs.Walk.{ShrSlice, shr-slice-copy, own-shut, Is, owed, bool-makes, Known, struct, Params, slice-kept, a-truth, Scene, Walked, Meeting, scene, known, proved}
-use Rattle.octets.proofs.Walk.{ !, _$_, _∵_, ‵, _⊛_, qed, by, move, keep, counted, plainly, use1, split, fjoin, owned, nothing, starts, lets, agg, calls, args2, args3, var, gets, field, leaves, ends}
+use Rattle.walk.proofs.Walk.{_≡_, refl, ap, List, [], _∷_, ℕ, URA, Heap, ent, id⊢, Fml, sem, Lfts, named, w8, w64, vint, vbool, u8, usize, bool, RefT, NamedLft, namedLft, plain, now, slice-vals}
+use Rattle.walk.proofs.Walk.{ShrSlice, shr-slice-copy, own-shut, Is, owed, bool-makes, Known, struct, Params, slice-kept, a-truth, Scene, Walked, Meeting, scene, known, proved}
+use Rattle.walk.proofs.Walk.{ !, _$_, _∵_, ‵, _⊛_, qed, by, move, keep, counted, plainly, use1, split, fjoin, owned, nothing, starts, lets, agg, calls, args2, args3, var, gets, field, leaves, ends}
 use Rattle.descriptors.specs.Steps.{begunOf}
 use Rattle.descriptors.specs.declared.cursor.Begun.{Begun}
 use Rattle.descriptors.specs.declared.cursor.Cursor.{Cursor}

@@ -1,8 +1,8 @@
 -- `record::next::seal_next` meets its contract, by a walk of its MIR. All that it knows of `seal_by` is that it meets its contract.
 -- Assumes nothing.
-use Rattle.octets.proofs.Walk.{_≡_, refl, [], _∷_, id⊢, URA, Heap, w8, vint, u8, plain, now, slice-vals, Is, owed}
-use Rattle.octets.proofs.Walk.{Known, struct, number, Params, lent, slice-over, slice-passed-on, Scene, of-type, Walked, Meeting, scene, known, proved}
-use Rattle.octets.proofs.Walk.{ !, _$_, move, keep, counted, plainly, starts, opened, lets, of-opd, behind, relends, calls, args6, var, gets, stores, field, closed, learnt, leaves, ends}
+use Rattle.walk.proofs.Walk.{_≡_, refl, [], _∷_, id⊢, URA, Heap, w8, vint, u8, plain, now, slice-vals, Is, owed}
+use Rattle.walk.proofs.Walk.{Known, struct, number, Params, lent, slice-over, slice-passed-on, Scene, of-type, Walked, Meeting, scene, known, proved}
+use Rattle.walk.proofs.Walk.{ !, _$_, move, keep, counted, plainly, starts, opened, lets, of-opd, behind, relends, calls, args6, var, gets, stores, field, closed, learnt, leaves, ends}
 use Rattle.session.proofs.Session as T
 use Rattle.session.proofs.Session.Laws as T′
 use Rattle.record.specs.Next.{sealNextAnswer}

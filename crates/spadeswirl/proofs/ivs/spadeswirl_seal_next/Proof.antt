@@ -1,8 +1,8 @@
 -- `spadeswirl::ivs::spadeswirl_seal_next` meets its contract, by a walk of its MIR: it passes all that it is lent on to `record::next::seal_next`, of which it knows only that it meets its contract.
 -- Assumes nothing.
-use Rattle.octets.proofs.Walk.{_≡_, refl, [], _∷_, id⊢, URA, Heap, w8, u8, plain, now, ptr-vals, slice-vals}
-use Rattle.octets.proofs.Walk.{number, Params, passed-on, slice-over, slice-passed-on, Scene, Walked, Meeting, scene, known, proved}
-use Rattle.octets.proofs.Walk.{ !, _$_, move, keep, starts, lets, again, relends, calls, args6, var, gets, learnt, leaves, ends}
+use Rattle.walk.proofs.Walk.{_≡_, refl, [], _∷_, id⊢, URA, Heap, w8, u8, plain, now, ptr-vals, slice-vals}
+use Rattle.walk.proofs.Walk.{number, Params, passed-on, slice-over, slice-passed-on, Scene, Walked, Meeting, scene, known, proved}
+use Rattle.walk.proofs.Walk.{ !, _$_, move, keep, starts, lets, again, relends, calls, args6, var, gets, learnt, leaves, ends}
 use Rattle.session.proofs.Session as T
 use Rattle.record.specs.Next.{sealNextAnswer}
 use Rattle.record.proofs.next.seal_next as below

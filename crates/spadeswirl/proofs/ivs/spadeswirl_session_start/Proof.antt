@@ -1,8 +1,8 @@
 -- `spadeswirl::ivs::spadeswirl_session_start` meets its contract, by a walk of its MIR. All that it knows of `session::start_numbered` is that it meets its contract.
 -- Assumes nothing.
-use Rattle.octets.proofs.Walk.{_≡_, refl, sym, ap, [], _∷_, id⊢, URA, Heap, w8, w32, w64, lit<, vint, plain}
-use Rattle.octets.proofs.Walk.{Known, struct, Params, lent, a-number, Scene, Walked, Meeting, scene, known, proved}
-use Rattle.octets.proofs.Walk.{ !, _$_, move, keep, counted, starts, opened, lets, of-opd, lit, calls, args2, var, gets, stores, closed, leaves, ends}
+use Rattle.walk.proofs.Walk.{_≡_, refl, sym, ap, [], _∷_, id⊢, URA, Heap, w8, w32, w64, lit<, vint, plain}
+use Rattle.walk.proofs.Walk.{Known, struct, Params, lent, a-number, Scene, Walked, Meeting, scene, known, proved}
+use Rattle.walk.proofs.Walk.{ !, _$_, move, keep, counted, starts, opened, lets, of-opd, lit, calls, args2, var, gets, stores, closed, leaves, ends}
 use Rattle.octets.specs.BigEndian.{be}
 use Rattle.session.specs.Iv.{prefixSize, started}
 use Rattle.session.specs.declared.Session.{Session}

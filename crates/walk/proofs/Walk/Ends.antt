@@ -24,9 +24,9 @@ use denote.Laws.{Is, Are, Ises, Typed, valss, all-typed}
 use denote.Triple.Entry.{Args, Vals, Res, onEntry}
 use denote.Triple.Clauses.{Ended, Clauses, Lasts, atExit}
 use denote.Triple.Walked.{Fit, onExit, walkOf, ends-at}
-use Rattle.octets.proofs.Walk.Locals.{Blocks, Arguments, envOf, deaths, cells, stored, begins}
-use Rattle.octets.proofs.Walk.Parameters.{Known, Params, stays, spell, all-lawful, had-on, had-gives}
-use Rattle.octets.proofs.Walk.Entries.{Lives, Parts, Outlive, Rows, Result, tokens, owned-by, tokens-in, tokens-out, owned-in}
+use Rattle.walk.proofs.Walk.Locals.{Blocks, Arguments, envOf, deaths, cells, stored, begins}
+use Rattle.walk.proofs.Walk.Parameters.{Known, Params, stays, spell, all-lawful, had-on, had-gives}
+use Rattle.walk.proofs.Walk.Entries.{Lives, Parts, Outlive, Rows, Result, tokens, owned-by, tokens-in, tokens-out, owned-in}
 
 pub record Scene {M : Type 1} (𝓤 : URA M) (H : Heap 𝓤) : Type 2 where
   pub A : Atoms 𝓤

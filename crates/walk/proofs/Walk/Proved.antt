@@ -20,9 +20,9 @@ use denote.Triple.Statement.{Triple}
 use denote.Triple.Clauses.{Ended, Clauses}
 use denote.Triple.Table.{entered, cited}
 use denote.Triple.Walked.{walked, walk-meets}
-use Rattle.octets.proofs.Walk.Parameters.{Params, stays, all-go, spell, all-tell}
-use Rattle.octets.proofs.Walk.Ends.{Scene, Says, values, Walked}
-use Rattle.octets.proofs.Walk.Callees.{promise, Meeting}
+use Rattle.walk.proofs.Walk.Parameters.{Params, stays, all-go, spell, all-tell}
+use Rattle.walk.proofs.Walk.Ends.{Scene, Says, values, Walked}
+use Rattle.walk.proofs.Walk.Callees.{promise, Meeting}
 
 module _ {M : Type 1} (𝓤 : URA M) (H : Heap 𝓤) (𝓜 : Model 𝓤 H) (𝓖 : GhostRules 𝓤 H) (𝓡 : Running 𝓤 H 𝓜) (γ : Env) where
   pub framed : FmC 𝓤 H (givenOf 𝓤 H 𝓜 𝓖 .laws) (tables 𝓤 H 𝓜 𝓡 γ .C)

@@ -23,9 +23,9 @@ use denote.Triple.Statement.{Contract, Triple}
 use denote.Triple.Spec.{tripleOf}
 use denote.Triple.Clauses.{Ended, Clauses, Lasts, atExit, lasts, closing}
 use denote.Triple.Call.{calls-at}
-use Rattle.octets.proofs.Walk.Parameters.{Known}
-use Rattle.octets.proofs.Walk.Entries.{Lives, Parts, Outlive, Rows, Result, tokens, owned-by, lasts-on, tokens-in, tokens-out, owned-out, lasts-in}
-use Rattle.octets.proofs.Walk.Ends.{Scene, Says}
+use Rattle.walk.proofs.Walk.Parameters.{Known}
+use Rattle.walk.proofs.Walk.Entries.{Lives, Parts, Outlive, Rows, Result, tokens, owned-by, lasts-on, tokens-in, tokens-out, owned-out, lasts-in}
+use Rattle.walk.proofs.Walk.Ends.{Scene, Says}
 
 abbrev pub promise : {M : Type 1} (𝓤 : URA M) (H : Heap 𝓤) (A : Atoms 𝓤) (T : Ended) → Clauses 𝓤 T → Contract 𝓤
 promise 𝓤 H A T c = tripleOf 𝓤 H A (T .signature) (closing 𝓤 H A T c)

@@ -27,7 +27,7 @@ use denote.Struct.Declared.{Declared, fields, row}
 use denote.Struct.Laws as LL
 use denote.Struct.Steps.{spelt}
 use denote.Struct.Struct.{Plains}
-use Rattle.octets.proofs.Walk.Parameters.{Known}
+use Rattle.walk.proofs.Walk.Parameters.{Known}
 
 module _ {M : Type 1} {𝓤 : URA M} {H : Heap 𝓤} {A : Atoms 𝓤} {K : Type 0} {W : Given 𝓤 H A} {Γ : List (Item 𝓤)} {G : Goal 𝓤 H} {R : RattleType} where
   pub opened : K → Soaks G → (N : Known R) (x : RefT (R .Denot)) {κ : Lft} {q : Share} {vs : List Val}

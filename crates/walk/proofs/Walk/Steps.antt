@@ -25,7 +25,7 @@ use ghost.Atoms.{Atoms}
 use types.Kit.{Given, Item, ‵, nth, put, Post, runs, lands, Step, step, _$_}
 use types.Run.{look, look-raw, init, store-raw, stop, hop, from, fld, load, addr, and-then, no-more, assigns, land, Opd, Opds, Rv}
 use types.Part.{Part, agg, whole, sub, look-in, store-in}
-use Rattle.octets.proofs.Walk.Locals.{at}
+use Rattle.walk.proofs.Walk.Locals.{at}
 
 -- field j of the struct's cell at the entry p
 within : {M : Type 1} {𝓤 : URA M} {H : Heap 𝓤} {A : Atoms 𝓤} {K : Type 0} {W : Given 𝓤 H A} (Γ : List (Item 𝓤)) → K → (p j : ℕ) {q : Share} {ν : Sym} {τs : Tys} {b o : ℕ} {vs : Vals} {τ : Ty} {d : ℕ}

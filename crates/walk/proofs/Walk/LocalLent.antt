@@ -1,4 +1,4 @@
--- What `put_next` needs beside octets' frame of a walk: a local that is lent to a callee, `f(&mut _k)`, for a lifetime that is made for the call, and is had back.
+-- A local that is lent to a callee, `f(&mut _k)`, for a lifetime that is made for the call, and is had back.
 --     over             a parameter by value of which nothing is had at exit
 --     address          the right side `&mut _k`
 --     lends k          `_k` and what its value owns are lent within a lifetime κ: [the loan's token; κ's token; what the borrow owns; what the lender keeps]. In the place of `_k` stands nothing
@@ -39,9 +39,9 @@ use denote.Struct.Steps.{spelt}
 use denote.Struct.Struct.{Struct}
 use denote.Struct.Values.{Values, intos}
 use denote.Triple.Walked.{Silent, stay-dropped, goes-dropped}
-use Rattle.octets.proofs.Walk.Locals.{at}
-use Rattle.octets.proofs.Walk.Steps.{Holds}
-use Rattle.octets.proofs.Walk.Parameters.{Known, Param}
+use Rattle.walk.proofs.Walk.Locals.{at}
+use Rattle.walk.proofs.Walk.Steps.{Holds}
+use Rattle.walk.proofs.Walk.Parameters.{Known, Param}
 
 abbrev pub over : {n : ℕ} {R : RattleType} → Known R → ((M : Type 1) (𝓤 : URA M) (H : Heap 𝓤) (A : Atoms 𝓤) (W : Given 𝓤 H A) → Silent 𝓤 H A W n (plain (λ _. R)) yes)
     → Param {n = n} (plain (λ _. R)) yes

@@ -4,6 +4,7 @@
 --     Ends             `starts` and `ends`.        Locals      `leaves`: the function returns
 --     Steps            the statements: `lets`, `stores`, `relends`; and their operands: `var`, `field`, `behind`
 --     Lent             `opened`, `closed`, `counted`, `plainly`, `learnt`.        Callees     `calls`, and then `gets` of Steps for the result
+--     LocalLent        a local that is lent to a callee: `lends`, `has-back`
 --     Proved           `proved`: the walk is the function's theorem
 -- The kit's names that a walk needs beside these are passed on below.
 pub mod Locals
@@ -14,6 +15,7 @@ pub mod Ends
 pub mod Callees
 pub mod Lent
 pub mod Proved
+pub mod LocalLent
 pub use Locals.{leaves}
 pub use Steps.{var, field, behind, behind-field, again, args1, args2, args3, args6, lets, gets, stores, stores-field, relends}
 pub use Parameters.{Known, struct, number, truth, reference, slice-lent, slice-read, Param, Params, lent, passed-on, slice-passed-on, slice-over, slice-kept, a-number, a-truth}
