@@ -10,7 +10,7 @@ use Rattle.octets.proofs.Tests.{part-short}
 use Rattle.wording.specs.Lines.{newline}
 use Rattle.cases.specs.Words.{partsBy}
 use Rattle.cases.specs.Parts.{SoFar}
-use Rattle.cases.specs.Run.{textFrom, runText}
+use Rattle.cases.specs.Run.{textFrom, linesText}
 use Rattle.cases.proofs.Splitting.{upTo-short}
 use Rattle.cases.proofs.Written.{far-none, far-more, far-all}
 use Rattle.cases.proofs.Along.{text-turn, text-end}
@@ -19,13 +19,13 @@ use Rattle.cases.proofs.put_cases.Tie as tie
 
 abbrev Inv-loop : tie.InvT-loop
 Inv-loop out₀ input end₀ at₀ number₀ out end at number =
-    (length out ≡ length out₀) × (number ≤ at + 1) × SoFar (runText input) (textFrom number (partsBy newline (drop at input))) out₀ out end
+    (length out ≡ length out₀) × (number ≤ at + 1) × SoFar (linesText input) (textFrom number (partsBy newline (drop at input))) out₀ out end
 
 abbrev μ-loop : tie.MeasureT-loop
 μ-loop out₀ input end₀ at₀ number₀ out end at number = length input - at
 
 loop-holds : tie.Need-loop-holds Inv-loop μ-loop
-unfolding runText
+unfolding linesText
 loop-holds c = (refl, omega arith, far-none _ _)
 
 -- a line is no longer than the input
