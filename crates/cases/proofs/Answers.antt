@@ -1,13 +1,13 @@
 -- The text of an input, by the tests that are made of it.
 -- Assumes nothing.
-use mathlib.Core.Path.{_≡_, refl, ap, _∙_}
+use mathlib.Core.Path.{_≡_, refl, sym, ap, _∙_}
 use mathlib.Core.Bool.{Bool, true, false}
 use mathlib.Core.List.{List}
 use Prim.Native.Nat.{ℕ, _≤_, _<_}
 use native.Mathlib.Omega.{arith}
-use lib.Dec.{leb}
+use lib.Dec.{leb, ltb}
 use lib.ListN.{length, replicate, length-replicate}
-use borrow.Author.Tests.{leb-true, leb-false, lt-ltb, le-ltb}
+use borrow.Author.Tests.{leb-true, leb-false, lt-ltb, le-ltb, ltb-false}
 use Rattle.wording.proofs.Wrote.{wrote-front}
 use Rattle.cases.specs.Parts.{Put}
 use Rattle.cases.specs.Run.{linesText, inputMax, runMax, inputRefused, textRefused, runText, noText, inRoom}
@@ -28,31 +28,26 @@ module _ (input : List ℕ) where
   run-long h = rw (lt-ltb inputMax (length input) h)
 
   module _ (short : length input ≤ inputMax) {room after : List ℕ} {end : ℕ} (empty : room ≡ noText) (p : Put 0 (linesText input) room after end) where
-    long : runMax < end → runMax < length (linesText input)
-    long h = go (leb (length (linesText input)) runMax) refl
+    -- the place after the text tells whether it fits
+    told : ltb runMax (length (linesText input)) ≡ ltb runMax end
+    told = go (leb (length (linesText input)) runMax) refl
       where
-        go : (t : Bool) → leb (length (linesText input)) runMax ≡ t → runMax < length (linesText input)
+        go : (t : Bool) → leb (length (linesText input)) runMax ≡ t → ltb runMax (length (linesText input)) ≡ ltb runMax end
         go true e =
             let fits = leb-true (length (linesText input)) runMax e in
             let w = p .fits (omega (arith, room-size empty)) in
-            absurd (omega (arith, w .place))
-        go false e = leb-false (length (linesText input)) runMax e
-
-    fitting : end ≤ runMax → length (linesText input) ≤ runMax
-    fitting h = go (leb (length (linesText input)) runMax) refl
-      where
-        go : (t : Bool) → leb (length (linesText input)) runMax ≡ t → length (linesText input) ≤ runMax
-        go true e = leb-true (length (linesText input)) runMax e
+            le-ltb runMax (length (linesText input)) fits ∙ sym (le-ltb runMax end (omega (arith, w .place)))
         go false e =
             let past = leb-false (length (linesText input)) runMax e in
-            absurd (omega (arith, room-size empty, p .past (omega (arith, room-size empty))))
+            lt-ltb runMax (length (linesText input)) past ∙ sym (lt-ltb runMax end (omega (arith, room-size empty, p .past (omega (arith, room-size empty)))))
 
     pub run-full : runMax < end → runText input ≡ textRefused
     unfolding runText
-    run-full h = rw (le-ltb inputMax (length input) short, lt-ltb runMax (length (linesText input)) (long h))
+    run-full h = rw (le-ltb inputMax (length input) short, told ∙ lt-ltb runMax end h)
 
     pub run-done : end ≤ runMax → inRoom (runText input) ≡ (end, after)
     unfolding runText
     run-done h =
-        let front = wrote-front (p .fits (omega (arith, fitting h, room-size empty))) in
-        rw (le-ltb inputMax (length input) short, le-ltb runMax (length (linesText input)) (fitting h), ← empty) front
+        let fits : ltb runMax (length (linesText input)) ≡ false = told ∙ le-ltb runMax end h in
+        rw (le-ltb inputMax (length input) short, fits, ← empty)
+        (wrote-front (p .fits (omega (arith, ltb-false runMax (length (linesText input)) fits, room-size empty))))
