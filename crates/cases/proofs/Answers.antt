@@ -1,16 +1,16 @@
--- The answer to an input, by the tests that are made of it.
+-- The text of an input, by the tests that are made of it.
 -- Assumes nothing.
-use mathlib.Core.Path.{_≡_, refl, ap, _∙_}
+use mathlib.Core.Path.{_≡_, refl, sym, ap, _∙_}
 use mathlib.Core.Bool.{Bool, true, false}
 use mathlib.Core.List.{List}
 use Prim.Native.Nat.{ℕ, _≤_, _<_}
 use native.Mathlib.Omega.{arith}
-use lib.Dec.{leb}
+use lib.Dec.{leb, ltb}
 use lib.ListN.{length, replicate, length-replicate}
-use borrow.Author.Tests.{leb-true, leb-false, lt-ltb, le-ltb}
+use borrow.Author.Tests.{leb-true, leb-false, lt-ltb, le-ltb, ltb-false}
 use Rattle.wording.proofs.Wrote.{wrote-front}
 use Rattle.cases.specs.Parts.{Put}
-use Rattle.cases.specs.Run.{runText, inputMax, runMax, noText, runNumber, runAnswer}
+use Rattle.cases.specs.Run.{linesText, inputMax, runMax, inputRefused, textRefused, runText, noText, inRoom}
 
 size-zeros : (n : ℕ) {s : List ℕ} → s ≡ replicate n 0 → length s ≡ n
 size-zeros n e = ap length e ∙ length-replicate {A = ℕ} n 0
@@ -23,36 +23,31 @@ pub room-size : {room : List ℕ} → room ≡ noText → length room ≡ runMax
 room-size e = size-zeros runMax (e ∙ zeros-are)
 
 module _ (input : List ℕ) where
-  pub run-long : {none : List ℕ} → none ≡ noText → inputMax < length input → runAnswer input ≡ (4, 0, none)
-  unfolding runAnswer runNumber
-  run-long e h = rw (lt-ltb inputMax (length input) h, e)
+  pub run-long : inputMax < length input → runText input ≡ inputRefused
+  unfolding runText
+  run-long h = rw (lt-ltb inputMax (length input) h)
 
-  module _ (short : length input ≤ inputMax) {room after : List ℕ} {end : ℕ} (empty : room ≡ noText) (p : Put 0 (runText input) room after end) where
-    long : runMax < end → runMax < length (runText input)
-    long h = go (leb (length (runText input)) runMax) refl
+  module _ (short : length input ≤ inputMax) {room after : List ℕ} {end : ℕ} (empty : room ≡ noText) (p : Put 0 (linesText input) room after end) where
+    -- the place after the text tells whether it fits
+    told : ltb runMax (length (linesText input)) ≡ ltb runMax end
+    told = go (leb (length (linesText input)) runMax) refl
       where
-        go : (t : Bool) → leb (length (runText input)) runMax ≡ t → runMax < length (runText input)
+        go : (t : Bool) → leb (length (linesText input)) runMax ≡ t → ltb runMax (length (linesText input)) ≡ ltb runMax end
         go true e =
-            let fits = leb-true (length (runText input)) runMax e in
+            let fits = leb-true (length (linesText input)) runMax e in
             let w = p .fits (omega (arith, room-size empty)) in
-            absurd (omega (arith, w .place))
-        go false e = leb-false (length (runText input)) runMax e
-
-    fitting : end ≤ runMax → length (runText input) ≤ runMax
-    fitting h = go (leb (length (runText input)) runMax) refl
-      where
-        go : (t : Bool) → leb (length (runText input)) runMax ≡ t → length (runText input) ≤ runMax
-        go true e = leb-true (length (runText input)) runMax e
+            le-ltb runMax (length (linesText input)) fits ∙ sym (le-ltb runMax end (omega (arith, w .place)))
         go false e =
-            let past = leb-false (length (runText input)) runMax e in
-            absurd (omega (arith, room-size empty, p .past (omega (arith, room-size empty))))
+            let past = leb-false (length (linesText input)) runMax e in
+            lt-ltb runMax (length (linesText input)) past ∙ sym (lt-ltb runMax end (omega (arith, room-size empty, p .past (omega (arith, room-size empty)))))
 
-    pub run-full : {none : List ℕ} → none ≡ noText → runMax < end → runAnswer input ≡ (5, 0, none)
-    unfolding runAnswer runNumber
-    run-full e h = rw (le-ltb inputMax (length input) short, lt-ltb runMax (length (runText input)) (long h), e)
+    pub run-full : runMax < end → runText input ≡ textRefused
+    unfolding runText
+    run-full h = rw (le-ltb inputMax (length input) short, told ∙ lt-ltb runMax end h)
 
-    pub run-done : end ≤ runMax → runAnswer input ≡ (0, end, after)
-    unfolding runAnswer runNumber
+    pub run-done : end ≤ runMax → inRoom (runText input) ≡ (end, after)
+    unfolding runText
     run-done h =
-        let front = wrote-front (p .fits (omega (arith, fitting h, room-size empty))) in
-        rw (le-ltb inputMax (length input) short, le-ltb runMax (length (runText input)) (fitting h), ← empty) (ap (λ (a : ℕ × List ℕ). (0, a .0, a .1)) front)
+        let fits : ltb runMax (length (linesText input)) ≡ false = told ∙ le-ltb runMax end h in
+        rw (le-ltb inputMax (length input) short, fits, ← empty)
+        (wrote-front (p .fits (omega (arith, ltb-false runMax (length (linesText input)) fits, room-size empty))))

@@ -6,14 +6,14 @@ use mathlib.Core.List.{List, [], _∷_}
 use Prim.Native.Nat.{ℕ, zero, suc, _+_, _-_, _*_, _/_, _%_, _≤_, _<_}
 use native.Mathlib.Nat.{le-of-suc-le-suc, not-suc-le-zero}
 use native.Mathlib.Omega.{arith}
-use lib.Dec.{ltb, leb}
+use lib.Dec.{eqb, ltb, leb}
 use lib.ListN.{length, getD, take, drop, drop-of-length-le, length-replicate}
 use lib.Seq.{drop-cons}
 use native.Mathlib.Numerals.{add-one}
-use borrow.Author.Tests.{ltb-true, ltb-false, le-leb, lt-leb}
+use borrow.Author.Tests.{eq-eqb, ne-eqb, leb-true, ltb-true, ltb-false, le-leb, lt-leb}
 use Rattle.octets.specs.Lent.{lowest, over}
 use Rattle.octets.specs.Tests.{all}
-use Rattle.octets.proofs.Tests.{all-stop, all-end}
+use Rattle.octets.proofs.Tests.{and-left, and-right, all-stop, all-end}
 use Rattle.octets.proofs.Lent.{take-over}
 use Rattle.wording.specs.Hex.{isHex, hexBytes, hexRead}
 use Rattle.wording.proofs.Digits.{length-hexBytes, hex-even, read-done}
@@ -27,6 +27,11 @@ pub full-size : {room : List ℕ} → room ≡ lentRoom wordMax → length room 
 unfolding lentRoom
 full-size full = ap length full ∙ length-replicate {A = ℕ} wordMax 0xA5
 
+-- ---- a word that is not right
+
+refuses : {test : Bool} {s room : List ℕ} → test ≡ false → length room ≡ wordMax → Holds test s false 0 room
+refuses e size = record { tested = sym e; whole = size; small = omega arith; held = λ t. absurd (false≢true t) }
+
 -- ---- `-`
 
 pub dash-holds : (w room : List ℕ) → length room ≡ wordMax → isDash w ≡ true → Holds (isBytes w) (bytesIn w) true 0 room
@@ -36,37 +41,32 @@ dash-holds w room size e = record { tested = rw e; whole = size; small = omega a
 -- ---- digits
 
 module _ (w room after : List ℕ) (n : ℕ) (size : length room ≡ wordMax) (other : isDash w ≡ false) (read : hexRead w room ≡ (n, after)) where
-  number : (h : Bool) → isHex w ≡ h → (t : Bool) → ltb (length room) (length w / 2) ≡ t → n ≡ lowest ((2, not h) ∷ (5, t) ∷ [])
-  unfolding hexRead
-  number h eh t et = sym (ap (λ (p : ℕ × List ℕ). p .0) read) ∙ rw (eh, et)
-
-  by : (h : Bool) → isHex w ≡ h → (t : Bool) → ltb (length room) (length w / 2) ≡ t → (n ≡ 0 → ⊥) → isBytes w ≡ false
-  unfolding isBytes
-  by true eh true et wrong = rw (other, eh, lt-leb (length w) (2 * wordMax) (omega (arith, ltb-true (length room) (length w / 2) et)))
-  by true eh false et wrong = absurd (wrong (number true eh false et))
-  by false eh t et wrong = rw (other, eh)
+  right : isBytes w ≡ eqb n 0
+  unfolding isBytes hexRead
+  right = rw (other, ← ap (λ (p : ℕ × List ℕ). p .0) read) (go (isHex w) refl (ltb (length room) (length w / 2)) refl)
+    where
+      go : (h : Bool) → isHex w ≡ h → (t : Bool) → ltb (length room) (length w / 2) ≡ t → (h && leb (length w) (2 * wordMax)) ≡ eqb (lowest ((2, not h) ∷ (5, t) ∷ [])) 0
+      go true eh true e = lt-leb (length w) (2 * wordMax) (omega (arith, ltb-true (length room) (length w / 2) e))
+      go true eh false e = le-leb (length w) (2 * wordMax) (omega (arith, hex-even w eh, ltb-false (length room) (length w / 2) e))
+      go false eh t e = refl
 
   pub refused-holds : (n ≡ 0 → ⊥) → length after ≡ wordMax → Holds (isBytes w) (bytesIn w) false 0 after
-  refused-holds wrong kept =
-      record { tested = sym (by (isHex w) refl (ltb (length room) (length w / 2)) refl wrong); whole = kept; small = omega arith; held = λ e. absurd (false≢true e) }
-
-  right-by : (h : Bool) → isHex w ≡ h → (t : Bool) → ltb (length room) (length w / 2) ≡ t → n ≡ 0 → (isHex w ≡ true) × (length w / 2 ≤ wordMax)
-  right-by true eh true et e = let wrong : _≡_ {A = ℕ} 5 0 = sym (number true eh true et) ∙ e in absurd (omega arith)
-  right-by true eh false et e = (eh, omega (arith, ltb-false (length room) (length w / 2) et))
-  right-by false eh t et e = let wrong : _≡_ {A = ℕ} 2 0 = sym (number false eh t et) ∙ e in absurd (omega arith)
+  refused-holds wrong kept = refuses (right ∙ ne-eqb n 0 wrong) kept
 
   pub read-holds : n ≡ 0 → length after ≡ wordMax → Holds (isBytes w) (bytesIn w) true (length w / 2) after
   unfolding isBytes bytesIn
   read-holds e kept =
-      let right = right-by (isHex w) refl (ltb (length room) (length w / 2)) refl e in
-      let hex = right .0 in
+      let is : isBytes w ≡ true = right ∙ eq-eqb n 0 e in
+      let both : (isHex w && leb (length w) (2 * wordMax)) ≡ true = rw other at is in
+      let hex = and-left (isHex w) (leb (length w) (2 * wordMax)) both in
       let even : length w % 2 ≡ 0 = hex-even w hex in
-      let written : after ≡ over (hexBytes w) room = ap (λ (p : ℕ × List ℕ). p .1) (sym read ∙ read-done w room hex (omega (arith, right .1))) in
+      let short = leb-true (length w) (2 * wordMax) (and-right (isHex w) (leb (length w) (2 * wordMax)) both) in
+      let written : after ≡ over (hexBytes w) room = ap (λ (p : ℕ × List ℕ). p .1) (sym read ∙ read-done w room hex (omega arith)) in
       record {
-        tested = rw (other, hex, le-leb (length w) (2 * wordMax) (omega (arith, right .1)));
+        tested = sym is;
         whole = kept;
-        small = right .1;
-        held = λ r. rw (written, other) (take-over (hexBytes w) room (length w / 2) (length-hexBytes (length w / 2) w (omega arith)) (omega (arith, right .1)));
+        small = omega arith;
+        held = λ r. rw (written, other) (take-over (hexBytes w) room (length w / 2) (length-hexBytes (length w / 2) w (omega arith)) (omega arith));
       }
 
 -- ---- a room in decimal digits
@@ -117,7 +117,7 @@ module _ (w : List ℕ) where
 
   module _ (n : ℕ) (room : List ℕ) (full : room ≡ lentRoom wordMax) (read : Room n) where
     pub refused-room : wordMax < n → Holds (isRoom w) (lentRoom (valueOf w)) false 0 room
-    refused-room h = record { tested = sym (lt-leb n wordMax h) ∙ read .0; whole = full-size full; small = omega arith; held = λ e. absurd (false≢true e) }
+    refused-room h = refuses (sym (read .0) ∙ lt-leb n wordMax h) (full-size full)
 
     pub lent-room : n ≤ wordMax → Holds (isRoom w) (lentRoom (valueOf w)) true n room
     lent-room h =

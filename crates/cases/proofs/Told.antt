@@ -73,9 +73,7 @@ called-answer name {n = n} e f = ap (answerText name) e ∙ ap (λ (l : List ℕ
 
 -- ---- the strings of a call
 
-pub string-held : {w v : List ℕ} {right : Bool} {size : ℕ} {bytes : List ℕ} → w ≡ v → Holds (isBytes w) (bytesIn w) right size bytes → Holds (isBytes v) (bytesIn v) right size bytes
-string-held {right = right} {size = size} {bytes = bytes} e h = subst (λ (l : List ℕ). Holds (isBytes l) (bytesIn l) right size bytes) e h
-
+-- a string is held as a block is
 pub lent-held : (block : Bool) {w v : List ℕ} {right : Bool} {size : ℕ} {bytes : List ℕ} → w ≡ v
     → Holds (isLent block w) (lentIn block w) right size bytes → Holds (isLent block v) (lentIn block v) right size bytes
 lent-held block {right = right} {size = size} {bytes = bytes} e h = subst (λ (l : List ℕ). Holds (isLent block l) (lentIn block l) right size bytes) e h
@@ -87,9 +85,13 @@ module _ (line : List ℕ) (number : ℕ) (c : Call) {n : ℕ} {block : Bool} (t
     (hd : Holds (isBytes (stringAt line n 3)) (bytesIn (stringAt line n 3)) rd zd d)
     (he : Holds (isBytes (stringAt line n 4)) (bytesIn (stringAt line n 4)) re ze e)
     (hl : Holds (isLent block (wordAt line (n + 2))) (lentIn block (wordAt line (n + 2))) rl zl l) where
+  right : stringsRight line c ≡ (ra && rb && rc && rd && re && rl)
+  unfolding stringsRight
+  right = rw (← takes, ← is, ← ha .tested, ← hb .tested, ← hc .tested, ← hd .tested, ← he .tested, ← hl .tested)
+
   pub asked-refused : (ra && rb && rc && rd && re && rl) ≡ false → askedText line number c ≡ refusedText number
-  unfolding askedText stringsRight
-  asked-refused f = rw (← takes, ← is, ← ha .tested, ← hb .tested, ← hc .tested, ← hd .tested, ← he .tested, ← hl .tested, f)
+  unfolding askedText
+  asked-refused f = rw (right ∙ f)
 
   module _ (t : (ra && rb && rc && rd && re && rl) ≡ true) where
     at : (i : ℕ) → getD (ra ∷ rb ∷ rc ∷ rd ∷ re ∷ rl ∷ []) i true ≡ true
@@ -97,22 +99,6 @@ module _ (line : List ℕ) (number : ℕ) (c : Call) {n : ℕ} {block : Bool} (t
 
     pub asked-ran : {pa pb pc pd pe : List ℕ} → pa ≡ partOf a 0 za → pb ≡ partOf b 0 zb → pc ≡ partOf c′ 0 zc → pd ≡ partOf d 0 zd → pe ≡ partOf e 0 ze
         → askedText line number c ≡ answerText (wordAt line 0) (c .gives pa pb pc pd pe (take zl l))
-    unfolding askedText stringsRight answerOf
+    unfolding askedText answerOf
     asked-ran ea eb ec ed ee =
-        rw (
-          ← takes,
-          ← is,
-          ← ha .tested,
-          ← hb .tested,
-          ← hc .tested,
-          ← hd .tested,
-          ← he .tested,
-          ← hl .tested,
-          t,
-          ea ∙ ha .held (at 0),
-          eb ∙ hb .held (at 1),
-          ec ∙ hc .held (at 2),
-          ed ∙ hd .held (at 3),
-          ee ∙ he .held (at 4),
-          hl .held (at 5),
-        )
+        rw (right ∙ t, ← takes, ← is, ea ∙ ha .held (at 0), eb ∙ hb .held (at 1), ec ∙ hc .held (at 2), ed ∙ hd .held (at 3), ee ∙ he .held (at 4), hl .held (at 5))

@@ -1,16 +1,14 @@
 -- What splitting a line and running an input promise, as statements; proofs/Laws.antt proves each.
 -- Assumes nothing.
 use mathlib.Core.Path.{_≡_}
-use mathlib.Core.Bool.{true}
 use mathlib.Core.List.{List, [], _∷_, _++_}
-use Prim.Native.Nat.{ℕ}
+use Prim.Native.Nat.{ℕ, _≤_}
 use lib.ListN.{length}
-use Rattle.octets.specs.Lowest.{rises}
 use Rattle.octets.specs.Unique.{UniqueBy}
 use Rattle.cases.specs.declared.Text.{Text}
 use Rattle.cases.specs.Words.{partsBy}
 use Rattle.cases.specs.Calls.{calls, callCount}
-use Rattle.cases.specs.Run.{runTests, runAnswer}
+use Rattle.cases.specs.Run.{runMax, runText, inRoom}
 
 -- parts with one c between each two
 abbrev pub rejoined : ℕ → List (List ℕ) → List ℕ
@@ -26,10 +24,10 @@ PartsJoin = (c : ℕ) (s : List ℕ) → rejoined c (partsBy c s) ≡ s
 abbrev pub CallsCounted : Type 0
 CallsCounted = length calls ≡ callCount
 
--- the numbers of a run rise
-abbrev pub RunTestsRise : Type 0
-RunTestsRise = (input : List ℕ) → rises (runTests input) ≡ true
+-- the whole text has room
+abbrev pub RunFits : Type 0
+RunFits = (input : List ℕ) → length (runText input) ≤ runMax
 
 -- for each input one text
 abbrev pub RunUnique : Type 0
-RunUnique = (input : List ℕ) → UniqueBy (λ (t : Text). (t .number, t .size, t .bytes)) (runAnswer input)
+RunUnique = (input : List ℕ) → UniqueBy (λ (t : Text). (t .size, t .bytes)) (inRoom (runText input))

@@ -3,6 +3,7 @@ use crate::calls::CALLS;
 use crate::calls::call;
 use crate::calls::call_named;
 use crate::calls::strings_of;
+use crate::strings::Held;
 use crate::strings::WORD_MAX;
 use crate::strings::lend;
 use crate::strings::read_word;
@@ -20,8 +21,8 @@ ghost use Prim.Native.Nat.{_≤_, _<_};
 ghost use lib.ListN.{length, getD, take};
 ghost use Rattle.cases.specs.Calls.{calls, callCount, noCall};
 ghost use Rattle.cases.specs.Line.{digitsShown, answerText, isComment, wordsRight, stringAt, askedText, caseText};
-ghost use Rattle.cases.specs.Parts.{Put};
-ghost use Rattle.cases.specs.Strings.{wordMax};
+ghost use Rattle.cases.specs.Parts.{Holds, Put};
+ghost use Rattle.cases.specs.Strings.{wordMax, isBytes, bytesIn};
 ghost use Rattle.cases.specs.Run.{runMax};
 
 // An empty line, or one that begins with `#`.
@@ -44,15 +45,15 @@ fn words_right(line: &[u8], call: usize) -> bool
     false
 }
 
-// The string of that number, of n; the others are empty.
-fn string_at(line: &[u8], n: usize, number: usize) -> &[u8]
+// What the string of that number, of n, stands for; the others are empty.
+fn string_at(line: &[u8], n: usize, number: usize) -> Held
     requires { ⌜ n ≤ 5 ⌝ }
-    ensures { λ r. ⌜ now r ≡ stringAt (now (line .entry)) n number ⌝ }
+    ensures { λ r. ⌜ Holds (isBytes (stringAt (now (line .entry)) n number)) (bytesIn (stringAt (now (line .entry)) n number)) (r .right) (r .size) (r .bytes) ⌝ }
 {
     if number < n {
-        return word(line, number + 2);
+        return read_word(word(line, number + 2));
     }
-    part(line, 0, 0)
+    read_word(part(line, 0, 0))
 }
 
 // The texts, each at a place of the room.
@@ -108,11 +109,11 @@ fn put_asked(out: &mut [u8], at: usize, line: &[u8], number: usize, asked: usize
     ensures { λ r. ⌜ Put at (askedText (now (line .entry)) number (getD calls asked noCall)) (now (out .entry)) (now (out .exit)) r ⌝ }
 {
     let n = strings_of(asked);
-    let a = read_word(string_at(line, n, 0));
-    let b = read_word(string_at(line, n, 1));
-    let c = read_word(string_at(line, n, 2));
-    let d = read_word(string_at(line, n, 3));
-    let e = read_word(string_at(line, n, 4));
+    let a = string_at(line, n, 0);
+    let b = string_at(line, n, 1);
+    let c = string_at(line, n, 2);
+    let d = string_at(line, n, 3);
+    let e = string_at(line, n, 4);
     // what is lent is a block where there is one string
     let l = lend(n == 1, word(line, n + 2));
     let lent = l.bytes;

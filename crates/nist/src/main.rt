@@ -10,17 +10,6 @@ fn run_input(room: [u8; ROOM]) {
     let mut input = room;
     let n = io::read_full(STDIN_FILENO, &mut input);
     let text = cases::run(&input[..n]);
-    if text.number == 4 {
-        io::write_all(STDOUT_FILENO, b"refused: more than 1048576 bytes\n");
-        return;
-    }
-    if text.number == 5 {
-        io::write_all(
-            STDOUT_FILENO,
-            b"refused: the text has more than 524288 bytes\n",
-        );
-        return;
-    }
     io::write_all(
         STDOUT_FILENO,
         octets::strings::part(&text.bytes, 0, text.size),

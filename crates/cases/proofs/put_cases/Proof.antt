@@ -1,7 +1,7 @@
 -- `cases::put_cases` meets its contract: what is written and the text of what is left make the whole.
 -- Assumes nothing.
 use mathlib.Core.Path.{_≡_, refl, ap, _∙_}
-use Prim.Native.Nat.{ℕ, _+_, _-_, _≤_}
+use Prim.Native.Nat.{ℕ, _+_, _-_, _*_, _≤_}
 use native.Mathlib.Omega.{arith}
 use borrow.Author.Needs.{needs}
 use lib.ListN.{length, drop}
@@ -10,7 +10,7 @@ use Rattle.octets.proofs.Tests.{part-short}
 use Rattle.wording.specs.Lines.{newline}
 use Rattle.cases.specs.Words.{partsBy}
 use Rattle.cases.specs.Parts.{SoFar}
-use Rattle.cases.specs.Run.{textFrom, runText}
+use Rattle.cases.specs.Run.{textFrom, linesText, inputMax}
 use Rattle.cases.proofs.Splitting.{upTo-short}
 use Rattle.cases.proofs.Written.{far-none, far-more, far-all}
 use Rattle.cases.proofs.Along.{text-turn, text-end}
@@ -19,13 +19,13 @@ use Rattle.cases.proofs.put_cases.Tie as tie
 
 abbrev Inv-loop : tie.InvT-loop
 Inv-loop out₀ input end₀ at₀ number₀ out end at number =
-    (length out ≡ length out₀) × (number ≤ at + 1) × SoFar (runText input) (textFrom number (partsBy newline (drop at input))) out₀ out end
+    (length out ≡ length out₀) × (number ≤ at + 1) × SoFar (linesText input) (textFrom number (partsBy newline (drop at input))) out₀ out end
 
 abbrev μ-loop : tie.MeasureT-loop
 μ-loop out₀ input end₀ at₀ number₀ out end at number = length input - at
 
 loop-holds : tie.Need-loop-holds Inv-loop μ-loop
-unfolding runText
+unfolding linesText
 loop-holds c = (refl, omega arith, far-none _ _)
 
 -- a line is no longer than the input
@@ -41,23 +41,22 @@ put-case-requires c κs =
     let l = c .before .before .before .before .before in
     omega (arith, l .loop .inv .0, l .before .before .before .pre .0)
 
-add-at : tie.Need-add-at Inv-loop μ-loop
-add-at c =
-    let u = c .before .before .before .before .before in
+-- the place after a line, and the next line's number
+next : (u : tie.After-until Inv-loop μ-loop)
+    → (u .before .before .before .loop .at + u .until .result + 1 ≤ 2 * inputMax) × (u .before .before .before .loop .number ≤ inputMax)
+next u =
     let l = u .before .before .before in
-    omega (arith, line-short u, l .before .before .before .pre .1, u .before .before .loop-test .taken)
+    let small = l .before .before .before .pre .1 in
+    (omega (arith, line-short u, small, u .before .before .loop-test .taken), omega (arith, small, u .before .before .loop-test .taken, l .loop .inv .1))
+
+add-at : tie.Need-add-at Inv-loop μ-loop
+add-at c = omega (arith, next (c .before .before .before .before .before) .0)
 
 add-at-2 : tie.Need-add-at-2 Inv-loop μ-loop
-add-at-2 c =
-    let u = c .before .before .before .before .before in
-    let l = u .before .before .before in
-    omega (arith, line-short u, l .before .before .before .pre .1, u .before .before .loop-test .taken)
+add-at-2 c = omega (arith, next (c .before .before .before .before .before) .0)
 
 add-number : tie.Need-add-number Inv-loop μ-loop
-add-number c =
-    let u = c .before .before .before .before .before in
-    let l = u .before .before .before in
-    omega (arith, line-short u, l .before .before .before .pre .1, u .before .before .loop-test .taken, l .loop .inv .1)
+add-number c = omega (arith, next (c .before .before .before .before .before) .1)
 
 loop-again : tie.Need-loop-again Inv-loop μ-loop
 loop-again c =

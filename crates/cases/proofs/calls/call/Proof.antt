@@ -16,49 +16,31 @@ ninth : (n : ℕ) → n < callCount → 9 ≤ n → n ≡ 9
 ninth n few from = omega arith
 
 returns : tie.Need-returns
-returns c =
-    let called = c .before .before in
-    rw (called .before .before .match .keys1) (called .encrypt-block .ensures)
+returns c = rw (c .before .before .before .before .match .keys1) (c .before .before .encrypt-block .ensures)
 
 returns-2 : tie.Need-returns-2
-returns-2 c =
-    let called = c .before .before in
-    rw (called .before .before .match .keys2) (called .decrypt-block .ensures)
+returns-2 c = rw (c .before .before .before .before .match .keys2) (c .before .before .decrypt-block .ensures)
 
 returns-3 : tie.Need-returns-3
-returns-3 c =
-    let called = c .before .before in
-    rw (called .before .before .match .keys3) (called .all-rounds .ensures)
+returns-3 c = rw (c .before .before .before .before .match .keys3) (c .before .before .all-rounds .ensures)
 
 returns-4 : tie.Need-returns-4
-returns-4 c =
-    let called = c .before .before in
-    rw (called .before .before .match .keys4) (called .all-rounds2 .ensures)
+returns-4 c = rw (c .before .before .before .before .match .keys4) (c .before .before .all-rounds2 .ensures)
 
 returns-5 : tie.Need-returns-5
-returns-5 c =
-    let called = c .before .before in
-    rw (called .before .before .before .match .keys5) (called .encrypt .ensures)
+returns-5 c = rw (c .before .before .before .before .before .match .keys5) (c .before .before .encrypt .ensures)
 
 returns-6 : tie.Need-returns-6
-returns-6 c =
-    let called = c .before .before in
-    rw (called .before .before .before .match .keys6) (called .encrypt2 .ensures)
+returns-6 c = rw (c .before .before .before .before .before .match .keys6) (c .before .before .encrypt2 .ensures)
 
 returns-7 : tie.Need-returns-7
-returns-7 c =
-    let called = c .before .before in
-    rw (called .before .before .before .match .keys7) (called .decrypt .ensures)
+returns-7 c = rw (c .before .before .before .before .before .match .keys7) (c .before .before .decrypt .ensures)
 
 returns-8 : tie.Need-returns-8
-returns-8 c =
-    let called = c .before .before in
-    rw (called .before .before .before .match .keys8) (called .decrypt2 .ensures)
+returns-8 c = rw (c .before .before .before .before .before .match .keys8) (c .before .before .decrypt2 .ensures)
 
 returns-9 : tie.Need-returns-9
-returns-9 c =
-    let called = c .before .before in
-    rw (called .before .before .match .keys9) (called .wrap .ensures)
+returns-9 c = rw (c .before .before .before .before .match .keys9) (c .before .before .wrap .ensures)
 
 returns-10 : tie.Need-returns-10
 returns-10 c =

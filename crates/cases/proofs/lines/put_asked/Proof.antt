@@ -1,7 +1,6 @@
 -- `cases::lines::put_asked` meets its contract: each string by what reading it tells.
 -- Assumes nothing.
 use mathlib.Core.Path.{_≡_, ap, _∙_}
-use mathlib.Core.Bool.{Bool}
 use mathlib.Core.List.{List}
 use Prim.Native.Nat.{ℕ, _+_}
 use native.Mathlib.Omega.{arith}
@@ -12,12 +11,11 @@ use denote.Ref.{now}
 use Rattle.wording.specs.Ascii.{ascii}
 use Rattle.wording.specs.Lines.{line}
 use Rattle.cases.specs.Words.{wordAt}
-use Rattle.cases.specs.Strings.{isBytes, bytesIn, isLent, lentIn}
+use Rattle.cases.specs.Strings.{isLent, lentIn}
 use Rattle.cases.specs.Calls.{Call, calls, noCall}
-use Rattle.cases.specs.Line.{stringAt}
 use Rattle.cases.specs.Parts.{Holds}
 use Rattle.cases.proofs.Named.{block-at}
-use Rattle.cases.proofs.Told.{string-held, lent-held, asked-refused, asked-ran}
+use Rattle.cases.proofs.Told.{lent-held, asked-refused, asked-ran}
 use Rattle.cases.proofs.Written.{put-one}
 use Rattle.cases.proofs.lines.put_asked.Statement.{statement}
 use Rattle.cases.proofs.lines.put_asked.Tie as tie
@@ -28,10 +26,25 @@ abbrev At : Type 0
 At = tie.After-struct-known
 
 abbrev start : At → tie.Start
-start b = b .before .before .before .before .before .before .before .before .before .before .before .before .before .before .before .before .before
+start b = b .before .before .before .before .before .before .before .before .before .before .before .before
+
+abbrev read5 : At → tie.After-string-at5
+read5 b = b .before .before .before .before
+
+abbrev read4 : At → tie.After-string-at4
+read4 b = read5 b .before
+
+abbrev read3 : At → tie.After-string-at3
+read3 b = read4 b .before
+
+abbrev read2 : At → tie.After-string-at2
+read2 b = read3 b .before
+
+abbrev read1 : At → tie.After-string-at
+read1 b = read2 b .before
 
 abbrev takes : At → tie.After-strings-of
-takes b = b .before .before .before .before .before .before .before .before .before .before .before .before .before .before
+takes b = read1 b .before
 
 abbrev n : At → ℕ
 n b = takes b .strings-of .result
@@ -41,40 +54,6 @@ text b = now (start b .args .line)
 
 abbrev asked : At → Call
 asked b = getD calls (start b .args .asked) noCall
-
--- what reading the string of number i told
-abbrev Got : At → ℕ → Bool → ℕ → List ℕ → Type 0
-Got b i right size bytes = Holds (isBytes (stringAt (text b) (n b) i)) (bytesIn (stringAt (text b) (n b) i)) right size bytes
-
-abbrev read5 : At → tie.After-read-word5
-read5 b = b .before .before .before .before
-
-abbrev read4 : At → tie.After-read-word4
-read4 b = read5 b .before .before
-
-abbrev read3 : At → tie.After-read-word3
-read3 b = read4 b .before .before
-
-abbrev read2 : At → tie.After-read-word2
-read2 b = read3 b .before .before
-
-abbrev read1 : At → tie.After-read-word
-read1 b = read2 b .before .before
-
-first : (b : At) → Got b 0 (read1 b .read-word .result .right) (read1 b .read-word .result .size) (read1 b .read-word .result .bytes)
-first b = string-held (read1 b .before .string-at .ensures) (read1 b .read-word .ensures)
-
-second : (b : At) → Got b 1 (read2 b .read-word2 .result .right) (read2 b .read-word2 .result .size) (read2 b .read-word2 .result .bytes)
-second b = string-held (read2 b .before .string-at2 .ensures) (read2 b .read-word2 .ensures)
-
-third : (b : At) → Got b 2 (read3 b .read-word3 .result .right) (read3 b .read-word3 .result .size) (read3 b .read-word3 .result .bytes)
-third b = string-held (read3 b .before .string-at3 .ensures) (read3 b .read-word3 .ensures)
-
-fourth : (b : At) → Got b 3 (read4 b .read-word4 .result .right) (read4 b .read-word4 .result .size) (read4 b .read-word4 .result .bytes)
-fourth b = string-held (read4 b .before .string-at4 .ensures) (read4 b .read-word4 .ensures)
-
-fifth : (b : At) → Got b 4 (read5 b .read-word5 .result .right) (read5 b .read-word5 .result .size) (read5 b .read-word5 .result .bytes)
-fifth b = string-held (read5 b .before .string-at5 .ensures) (read5 b .read-word5 .ensures)
 
 abbrev lends : At → tie.After-lend
 lends b = b .before .before
@@ -88,7 +67,7 @@ block : (b : At) → eqb (n b) 1 ≡ asked b .block
 block b = ap (λ (m : ℕ). eqb m 1) (takes b .strings-of .ensures .0) ∙ block-at (start b .args .asked)
 
 add-word : tie.Need-add-word
-add-word c = omega (arith, c .before .before .before .before .before .before .before .before .before .before .strings-of .ensures .1)
+add-word c = omega (arith, c .before .before .before .before .before .strings-of .ensures .1)
 
 put-called-requires : tie.Need-put-called-requires
 put-called-requires c κs =
@@ -106,8 +85,9 @@ returns c =
     let t = a .before .before .before .before .before .before in
     let b = t .before in
     rw (
-      asked-ran (text b) (start b .args .number) (asked b) (takes b .strings-of .ensures .0) (block b) (first b) (second b) (third b) (fourth b) (fifth b) (lent b) (t .if1 .taken)
-          (a .part .ensures) (b′ .part2 .ensures) (c′ .part3 .ensures) (d .part4 .ensures) (e .part5 .ensures),
+      asked-ran (text b) (start b .args .number) (asked b) (takes b .strings-of .ensures .0) (block b)
+          (read1 b .string-at .ensures) (read2 b .string-at2 .ensures) (read3 b .string-at3 .ensures) (read4 b .string-at4 .ensures) (read5 b .string-at5 .ensures) (lent b)
+          (t .if1 .taken) (a .part .ensures) (b′ .part2 .ensures) (c′ .part3 .ensures) (d .part4 .ensures) (e .part5 .ensures),
       ← a .before .before .before .before .word2 .ensures,
     )
     (p .put-called .ensures)
@@ -118,18 +98,14 @@ returns-2 c =
     let e = p .before .before .before in
     let b = e .before in
     rw
-    (asked-refused (text b) (start b .args .number) (asked b) (takes b .strings-of .ensures .0) (block b) (first b) (second b) (third b) (fourth b) (fifth b) (lent b) (e .if1 .left))
+    (asked-refused (text b) (start b .args .number) (asked b) (takes b .strings-of .ensures .0) (block b)
+    (read1 b .string-at .ensures) (read2 b .string-at2 .ensures) (read3 b .string-at3 .ensures) (read4 b .string-at4 .ensures) (read5 b .string-at5 .ensures) (lent b) (e .if1 .left))
     (put-one (start b .args .at) (line (ascii "refused") (start b .args .number)) (now (start b .args .out)) (start b .pre .0) (p .put-line .ensures))
 
 pub put-asked-spec : {M : Type 1} → statement M
 put-asked-spec =
     tie.close
     (tie.spec
-    (λ c κs. search needs)
-    (λ c κs. search needs)
-    (λ c κs. search needs)
-    (λ c κs. search needs)
-    (λ c κs. search needs)
     (λ c κs. search needs)
     (λ c κs. search needs)
     (λ c κs. search needs)
