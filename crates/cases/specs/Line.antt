@@ -10,7 +10,7 @@ use Rattle.octets.specs.Lent.{when}
 use Rattle.octets.specs.Tests.{every, all}
 use Rattle.wording.specs.Ascii.{ascii}
 use Rattle.wording.specs.Decimal.{decimal}
-use Rattle.wording.specs.Hex.{digitsOf}
+use Rattle.wording.specs.Hex.{digitsShown}
 use Rattle.wording.specs.Lines.{space, line}
 use Rattle.cases.specs.Words.{partsAfter, wordsOf, wordAt, someBytes}
 use Rattle.cases.specs.Strings.{isBytes, bytesIn, isLent, lentIn}
@@ -18,13 +18,9 @@ use Rattle.cases.specs.Calls.{Call, calls, callCount, noCall, callNamed}
 
 -- ---- the texts
 
--- digits in small letters, or `-` where there are none
-unfoldable pub digitsShown : List ℕ → List ℕ
-digitsShown s = when (eqb (length s) 0) (ascii "-") (digitsOf false s)
-
--- NAME number bytes
+-- NAME number bytes, in small digits
 unfoldable pub answerText : List ℕ → ℕ × List ℕ → List ℕ
-answerText name a = name ++ ascii " " ++ decimal (a .0) ++ ascii " " ++ digitsShown (a .1) ++ ascii "\n"
+answerText name a = name ++ ascii " " ++ decimal (a .0) ++ ascii " " ++ digitsShown false (a .1) ++ ascii "\n"
 
 -- refused N
 abbrev pub refusedText : ℕ → List ℕ

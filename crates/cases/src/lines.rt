@@ -13,14 +13,14 @@ use crate::words::word;
 use octets::strings::part;
 use wording::writing::put_byte;
 use wording::writing::put_decimal;
-use wording::writing::put_hex;
 use wording::writing::put_line;
+use wording::writing::put_shown;
 use wording::writing::put_string;
 ghost use mathlib.Core.Path.{_≡_};
 ghost use Prim.Native.Nat.{_≤_, _<_};
 ghost use lib.ListN.{length, getD, take};
 ghost use Rattle.cases.specs.Calls.{calls, callCount, noCall};
-ghost use Rattle.cases.specs.Line.{digitsShown, answerText, isComment, wordsRight, stringAt, askedText, caseText};
+ghost use Rattle.cases.specs.Line.{answerText, isComment, wordsRight, stringAt, askedText, caseText};
 ghost use Rattle.cases.specs.Parts.{Holds, Put};
 ghost use Rattle.cases.specs.Strings.{wordMax, isBytes, bytesIn};
 ghost use Rattle.cases.specs.Run.{runMax};
@@ -58,16 +58,6 @@ fn string_at(line: &[u8], n: usize, number: usize) -> Held
 
 // The texts, each at a place of the room.
 
-fn put_shown(out: &mut [u8], at: usize, s: &[u8]) -> usize
-    requires { ⌜ length (now out) ≤ runMax ⌝ }
-    ensures { λ r. ⌜ Put at (digitsShown (now (s .entry))) (now (out .entry)) (now (out .exit)) r ⌝ }
-{
-    if s.len() == 0 {
-        return put_byte(out, at, b'-');
-    }
-    put_hex(out, at, s, false)
-}
-
 fn put_answer(out: &mut [u8], at: usize, name: &[u8], number: u8, lent: &[u8]) -> usize
     requires { ⌜ length (now out) ≤ runMax ⌝ }
     ensures { λ r. ⌜ Put at (answerText (now (name .entry)) (number, now (lent .entry))) (now (out .entry)) (now (out .exit)) r ⌝ }
@@ -76,7 +66,7 @@ fn put_answer(out: &mut [u8], at: usize, name: &[u8], number: u8, lent: &[u8]) -
     let number_at = put_byte(out, space_at, b' ');
     let other_at = put_decimal(out, number_at, number as u64);
     let lent_at = put_byte(out, other_at, b' ');
-    let end_at = put_shown(out, lent_at, lent);
+    let end_at = put_shown(out, lent_at, lent, false);
     put_byte(out, end_at, b'\n')
 }
 

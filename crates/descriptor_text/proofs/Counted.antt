@@ -6,19 +6,19 @@ use mathlib.Core.List.{List, [], _∷_, _++_}
 use Prim.Native.Nat.{ℕ, _+_, _-_, _/_, _%_, _≤_}
 use native.Mathlib.Omega.{arith}
 use lib.Dec.{eqb, leb, ltb}
-use lib.ListN.{length, drop}
+use lib.ListN.{length}
 use borrow.Author.Tests.{ne-eqb, leb-true}
 use Rattle.octets.specs.Lent.{when}
-use Rattle.octets.specs.Tests.{all, partOf}
+use Rattle.octets.specs.Tests.{all}
 use Rattle.octets.proofs.Tests.{and-left, and-right}
 use Rattle.wording.specs.Ascii.{ascii}
 use Rattle.wording.specs.Decimal.{isDecimalDigit, decimal}
-use Rattle.wording.specs.Hex.{digitOf, digitsOf}
+use Rattle.wording.specs.Hex.{digitOf, digitsOf, digitsShown}
 use Rattle.wording.specs.Lines.{newline, line}
 use Rattle.wording.proofs.Laws.{decimal-digits}
 use Rattle.descriptors.specs.Parse.{split}
 use Rattle.descriptors.specs.Tested.{unreserved, countOf}
-use Rattle.descriptor_text.specs.Lines.{bytesShown, descriptorLine, descriptorLines, listText}
+use Rattle.descriptor_text.specs.Lines.{descriptorLine, descriptorLines, listText}
 use Rattle.descriptor_text.specs.Laws.{newlinesIn, CountsLines}
 
 newlines-append : (s t : List ℕ) → newlinesIn (s ++ t) ≡ newlinesIn s + newlinesIn t
@@ -54,8 +54,8 @@ newlines-digits (b ∷ s) e =
     let digit = and-left (isDecimalDigit b) (all isDecimalDigit s) e in
     other b s (leb-true 48 b (and-left (leb 48 b) (leb b 57) digit)) ∙ newlines-digits s (and-right (isDecimalDigit b) (all isDecimalDigit s) e)
 
-newlines-bytes : (s : List ℕ) → newlinesIn (bytesShown s) ≡ 0
-unfolding newlinesIn bytesShown
+newlines-bytes : (s : List ℕ) → newlinesIn (digitsShown true s) ≡ 0
+unfolding newlinesIn digitsShown
 newlines-bytes s = go (eqb (length s) 0)
   where
     go : (b : Bool) → newlinesIn (when b (ascii "-") (digitsOf true s)) ≡ 0

@@ -12,14 +12,14 @@ use Rattle.octets.specs.Lent.{when, kept}
 use Rattle.octets.proofs.Lent.{length-over}
 use Rattle.octets.proofs.Unique.{unique-by}
 use Rattle.wording.specs.Decimal.{digitsWithin, decimal}
-use Rattle.wording.specs.Hex.{digitOf, digitsOf}
+use Rattle.wording.specs.Hex.{digitOf, digitsOf, digitsShown}
 use Rattle.descriptors.specs.Descriptor.{sizeSaid, sizeOf}
 use Rattle.descriptors.specs.Labels.{listOf, labelNumber}
 use Rattle.descriptors.specs.Parse.{split}
 use Rattle.descriptors.specs.Tested.{unreserved}
 use Rattle.keypage.specs.Page.{listIn}
 use Rattle.keypage.specs.Read.{pageReadNumber}
-use Rattle.descriptor_text.specs.Lines.{bytesShown, descriptorLine, descriptorLines, listText}
+use Rattle.descriptor_text.specs.Lines.{descriptorLine, descriptorLines, listText}
 use Rattle.descriptor_text.specs.Described.{describedRoom, describedAs, labelDescribed, pageDescribed}
 use Rattle.descriptor_text.specs.Laws.{describedSays, DescribedFits, ExampleText, EmptyText, LabelFits, PageFits, LabelDescribedUnique, PageDescribedUnique}
 use Rattle.descriptor_text.specs.declared.Described.{Described}
@@ -27,7 +27,7 @@ use Rattle.descriptor_text.proofs.Room.{text-length}
 use Rattle.descriptor_text.proofs.Texts.{label-list-ok, page-list-ok}
 
 pub example-text : ExampleText
-unfolding listText descriptorLines descriptorLine bytesShown digitsOf digitOf decimal digitsWithin unreserved split sizeOf sizeSaid
+unfolding listText descriptorLines descriptorLine digitsShown digitsOf digitOf decimal digitsWithin unreserved split sizeOf sizeSaid
 example-text = refl
 
 pub empty-text : EmptyText

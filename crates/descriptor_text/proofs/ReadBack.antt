@@ -8,21 +8,19 @@ use native.Mathlib.Omega.{arith}
 use lib.Dec.{eqb}
 use lib.ListN.{length, drop, length-append, length-drop}
 use borrow.Author.Tests.{ne-eqb}
-use Rattle.octets.specs.Bytes.{Bytes}
-use Rattle.octets.specs.Lent.{over}
 use Rattle.octets.specs.Tests.{partOf}
 use Rattle.octets.proofs.Bytes.{bytes-take, bytes-drop}
 use Rattle.octets.proofs.Tests.{length-part, part-at}
-use Rattle.wording.specs.Hex.{digitsOf, hexRead}
+use Rattle.wording.specs.Hex.{digitsOf, hexRead, digitsShown}
 use Rattle.wording.specs.Lines.{space, newline}
 use Rattle.wording.proofs.Laws.{digits-length, there-and-back}
 use Rattle.descriptors.specs.Descriptor.{descriptorHeadSize}
 use Rattle.descriptors.proofs.Sizes.{said-least, descriptor-parts}
-use Rattle.descriptor_text.specs.Lines.{bytesShown, descriptorLine}
+use Rattle.descriptor_text.specs.Lines.{descriptorLine}
 use Rattle.descriptor_text.specs.Laws.{ReadsBack}
 
-bytes-some : (s : List ℕ) → 0 < length s → bytesShown s ≡ digitsOf true s
-unfolding bytesShown
+bytes-some : (s : List ℕ) → 0 < length s → digitsShown true s ≡ digitsOf true s
+unfolding digitsShown
 bytes-some s h = rw (ne-eqb (length s) 0 (λ e. absurd (omega (arith, e, h))))
 
 module _ (d : List ℕ) (least : descriptorHeadSize ≤ length d) where
@@ -33,7 +31,7 @@ module _ (d : List ℕ) (least : descriptorHeadSize ≤ length d) where
   lengthDigits = digitsOf true (partOf d 2 2)
 
   abbrev shown : List ℕ
-  shown = bytesShown (drop descriptorHeadSize d)
+  shown = digitsShown true (drop descriptorHeadSize d)
 
   type-two : length typeDigits ≡ 2
   type-two = omega (arith, digits-length true (partOf d 0 1), length-part d 0 1 (omega arith))

@@ -12,7 +12,7 @@ use Rattle.octets.specs.Tests.{all, partOf}
 use Rattle.octets.proofs.Tests.{and-left, and-right, part-short}
 use Rattle.wording.specs.Ascii.{ascii}
 use Rattle.wording.specs.Decimal.{decimal}
-use Rattle.wording.specs.Hex.{digitsOf}
+use Rattle.wording.specs.Hex.{digitsOf, digitsShown}
 use Rattle.wording.specs.Lines.{line}
 use Rattle.wording.proofs.Laws.{digits-length}
 use Rattle.wording.proofs.Decimal.{length-decimal64}
@@ -22,11 +22,11 @@ use Rattle.descriptors.specs.Parse.{split}
 use Rattle.descriptors.specs.Tested.{unreserved, countOf}
 use Rattle.descriptors.proofs.Sizes.{said-least, descriptor-parts}
 use Rattle.descriptors.proofs.Split.{split-joined, split-whole}
-use Rattle.descriptor_text.specs.Lines.{bytesShown, descriptorLine, descriptorLines, listText}
+use Rattle.descriptor_text.specs.Lines.{descriptorLine, descriptorLines, listText}
 use Rattle.descriptor_text.specs.Described.{describedRoom}
 
-bytes-length : (s : List ℕ) → length (bytesShown s) ≤ 2 * length s + 1
-unfolding bytesShown
+bytes-length : (s : List ℕ) → length (digitsShown true s) ≤ 2 * length s + 1
+unfolding digitsShown
 bytes-length s = go (eqb (length s) 0)
   where
     go : (b : Bool) → length (when b (ascii "-") (digitsOf true s)) ≤ 2 * length s + 1
@@ -34,7 +34,7 @@ bytes-length s = go (eqb (length s) 0)
     go false = rw (digits-length true s) (omega arith)
 
 pieces-length : (d : List ℕ) → length (descriptorLine d)
-    ≡ length (digitsOf true (partOf d 0 1)) + (1 + (length (digitsOf true (partOf d 2 2)) + (1 + (length (bytesShown (drop 4 d)) + 1))))
+    ≡ length (digitsOf true (partOf d 0 1)) + (1 + (length (digitsOf true (partOf d 2 2)) + (1 + (length (digitsShown true (drop 4 d)) + 1))))
 unfolding descriptorLine
 pieces-length d = simp length-append (omega arith)
 

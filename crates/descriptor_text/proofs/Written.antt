@@ -8,12 +8,12 @@ use native.Mathlib.Omega.{arith}
 use lib.ListN.{length, length-append}
 use Rattle.octets.specs.Tests.{partOf}
 use Rattle.octets.proofs.Tests.{part-rest}
-use Rattle.wording.specs.Hex.{digitsOf}
+use Rattle.wording.specs.Hex.{digitsOf, digitsShown}
 use Rattle.wording.specs.Lines.{space, newline}
 use Rattle.wording.specs.Writing.{putAt, Wrote}
 use Rattle.wording.proofs.Wrote.{done, puts, puts-wrote, wrote-then, wrote-length}
 use Rattle.descriptors.specs.declared.cursor.Cursor.{Cursor}
-use Rattle.descriptor_text.specs.Lines.{bytesShown, descriptorLine, descriptorLines}
+use Rattle.descriptor_text.specs.Lines.{descriptorLine, descriptorLines}
 use Rattle.descriptor_text.specs.Shown.{WroteIfFits, StepWrote, shownBy}
 
 nothing-wrote : (at : ℕ) (room : List ℕ) → WroteIfFits at [] room room at
@@ -32,7 +32,7 @@ both-wrote {at} {m} {e} {s} {t} {before} {between} {final} f g = record { wrote 
 
 pub line-wrote : (d t l s : List ℕ) {at a b c e f r : ℕ} {before r₁ r₂ r₃ r₄ r₅ final : List ℕ} → t ≡ partOf d 0 1 → l ≡ partOf d 2 2 → s ≡ partOf d 4 (length d)
     → putAt at (digitsOf true t) before ≡ (a, r₁) → putAt a (space ∷ []) r₁ ≡ (b, r₂) → putAt b (digitsOf true l) r₂ ≡ (c, r₃) → putAt c (space ∷ []) r₃ ≡ (e, r₄)
-    → putAt e (bytesShown s) r₄ ≡ (f, r₅) → putAt f (newline ∷ []) r₅ ≡ (r, final) → WroteIfFits at (descriptorLine d) before final r
+    → putAt e (digitsShown true s) r₄ ≡ (f, r₅) → putAt f (newline ∷ []) r₅ ≡ (r, final) → WroteIfFits at (descriptorLine d) before final r
 unfolding descriptorLine
 line-wrote d t l s is-t is-l is-s p₁ p₂ p₃ p₄ p₅ p₆ = record {
   wrote =

@@ -3,20 +3,14 @@
 use Prim.Native.Nat.{ℕ}
 use mathlib.Core.Bool.{Bool, true}
 use mathlib.Core.List.{List, [], _∷_, _++_}
-use lib.Dec.{eqb}
-use lib.ListN.{length, drop}
-use Rattle.octets.specs.Lent.{when}
+use lib.ListN.{drop}
 use Rattle.octets.specs.Tests.{partOf}
 use Rattle.wording.specs.Ascii.{ascii}
-use Rattle.wording.specs.Hex.{digitsOf}
+use Rattle.wording.specs.Hex.{digitsOf, digitsShown}
 use Rattle.wording.specs.Lines.{space, newline, line, together}
 use Rattle.descriptors.specs.Descriptor.{descriptorHeadSize}
 use Rattle.descriptors.specs.Parse.{split}
 use Rattle.descriptors.specs.Tested.{unreserved, countOf}
-
--- the bytes after the head, in hexadecimal digits with capital letters; `-` where there are none
-unfoldable pub bytesShown : List ℕ → List ℕ
-bytesShown s = when (eqb (length s) 0) (ascii "-") (digitsOf true s)
 
 -- type, length and bytes, with a space between each two: `C0 0003 010203`, `00 0000 -`
 abbrev pub piecesOf : List ℕ → List (List ℕ)
@@ -25,7 +19,7 @@ piecesOf d =
     ∷ (space ∷ [])
     ∷ digitsOf true (partOf d 2 2)
     ∷ (space ∷ [])
-    ∷ bytesShown (drop descriptorHeadSize d)
+    ∷ digitsShown true (drop descriptorHeadSize d)
     ∷ (newline ∷ [])
     ∷ []
 

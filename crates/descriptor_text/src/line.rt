@@ -2,9 +2,8 @@
 use octets::strings::part;
 use wording::writing::put_byte;
 use wording::writing::put_hex;
-ghost use mathlib.Core.Path.{_≡_};
-ghost use Rattle.wording.specs.Writing.{putAt};
-ghost use Rattle.descriptor_text.specs.Lines.{bytesShown, descriptorLine};
+use wording::writing::put_shown;
+ghost use Rattle.descriptor_text.specs.Lines.{descriptorLine};
 ghost use Rattle.descriptor_text.specs.Shown.{WroteIfFits};
 
 // Where a descriptor's length stands, after its type and a zero byte, and where its bytes begin.
@@ -14,16 +13,6 @@ const LENGTH_SIZE: usize = 2;
 
 const BYTES_AT: usize = 4;
 
-// The digits of a descriptor's bytes, or `-`.
-fn put_bytes(out: &mut [u8], at: usize, s: &[u8]) -> usize
-    ensures { λ r. ⌜ putAt at (bytesShown (now (s .entry))) (now (out .entry)) ≡ (r, now (out .exit)) ⌝ }
-{
-    if s.len() == 0 {
-        return put_byte(out, at, b'-');
-    }
-    put_hex(out, at, s, true)
-}
-
 // Type, length and bytes, with a space between each two.
 pub(crate) fn put_descriptor(out: &mut [u8], at: usize, d: &[u8]) -> usize
     ensures { λ r. ⌜ WroteIfFits at (descriptorLine (now (d .entry))) (now (out .entry)) (now (out .exit)) r ⌝ }
@@ -32,6 +21,6 @@ pub(crate) fn put_descriptor(out: &mut [u8], at: usize, d: &[u8]) -> usize
     let length_at = put_byte(out, type_end, b' ');
     let length_end = put_hex(out, length_at, part(d, LENGTH_AT, LENGTH_SIZE), true);
     let bytes_at = put_byte(out, length_end, b' ');
-    let bytes_end = put_bytes(out, bytes_at, part(d, BYTES_AT, d.len()));
+    let bytes_end = put_shown(out, bytes_at, part(d, BYTES_AT, d.len()), true);
     put_byte(out, bytes_end, b'\n')
 }

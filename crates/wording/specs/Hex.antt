@@ -8,6 +8,7 @@ use lib.Dec.{eqb, ltb}
 use lib.ListN.{length}
 use Rattle.octets.specs.Lent.{when, Tests, lowest, answer}
 use Rattle.octets.specs.Tests.{all}
+use Rattle.wording.specs.Ascii.{ascii}
 use Rattle.wording.specs.Decimal.{between, isDecimalDigit, decimalDigit}
 
 -- `a` to `f`
@@ -45,6 +46,10 @@ hexBytes (a ∷ b ∷ word) = hexByte a b ∷ hexBytes word
 unfoldable pub digitsOf : Bool → List ℕ → List ℕ
 digitsOf capital [] = []
 digitsOf capital (b ∷ s) = digitOf capital (b / 16) ∷ digitOf capital (b % 16) ∷ digitsOf capital s
+
+-- the digits, or `-` where there are none
+unfoldable pub digitsShown : Bool → List ℕ → List ℕ
+digitsShown capital s = when (eqb (length s) 0) (ascii "-") (digitsOf capital s)
 
 -- ---- reading: its numbers, and the lent output after it
 

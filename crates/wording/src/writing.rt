@@ -7,7 +7,7 @@ ghost use Prim.Native.Nat.{_+_};
 ghost use mathlib.Core.List.{[], _∷_, _++_};
 ghost use lib.Dec.{leb};
 ghost use Rattle.wording.specs.Decimal.{decimal};
-ghost use Rattle.wording.specs.Hex.{digitsOf};
+ghost use Rattle.wording.specs.Hex.{digitsOf, digitsShown};
 ghost use Rattle.wording.specs.Lines.{line};
 ghost use Rattle.wording.specs.Writing.{putAt};
 
@@ -92,6 +92,16 @@ pub fn put_hex(out: &mut [u8], at: usize, s: &[u8], capital: bool) -> usize
         i += 1;
     }
     end
+}
+
+// The same, and `-` where there are none.
+pub fn put_shown(out: &mut [u8], at: usize, s: &[u8], capital: bool) -> usize
+    ensures { λ r. ⌜ putAt at (digitsShown capital (now (s .entry))) (now (out .entry)) ≡ (r, now (out .exit)) ⌝ }
+{
+    if s.len() == 0 {
+        return put_byte(out, at, b'-');
+    }
+    put_hex(out, at, s, capital)
 }
 
 // A word, a space, a number and a newline.

@@ -1,14 +1,15 @@
 -- `cases::lines::put_answer` meets its contract: six texts one after the other.
 -- Assumes nothing.
+use mathlib.Core.Bool.{false}
 use mathlib.Core.List.{_++_}
-use native.Mathlib.Omega.{arith}
 use denote.Ref.{now}
 use Rattle.wording.specs.Ascii.{ascii}
 use Rattle.wording.specs.Decimal.{decimal}
+use Rattle.wording.specs.Hex.{digitsShown}
 use Rattle.cases.specs.Parts.{Put}
 use borrow.Author.Needs.{needs}
 use Rattle.cases.specs.Line.{answerText}
-use Rattle.cases.proofs.Written.{put-one, put-both, put-more}
+use Rattle.cases.proofs.Written.{put-one, put-more}
 use Rattle.cases.proofs.lines.put_answer.Statement.{statement}
 use Rattle.cases.proofs.lines.put_answer.Tie as tie
 
@@ -34,12 +35,8 @@ unfolding answerText
 returns c =
     let shown = c .before .before .before .before .before .before in
     let four = shown .before .before .before .before in
-    put-more (ascii "\n") (start four .pre) (put-both (front four) (shown .put-shown .ensures)) (c .before .before .put-byte3 .ensures)
-
-put-shown-requires : tie.Need-put-shown-requires
-put-shown-requires c κs =
-    let four = c .before .before .before in
-    omega (arith, front four .same-room, start four .pre)
+    put-more (ascii "\n") (start four .pre) (put-more (digitsShown false (now (start four .args .lent))) (start four .pre) (front four) (shown .put-shown .ensures))
+    (c .before .before .put-byte3 .ensures)
 
 pub put-answer-spec : {M : Type 1} → statement M
 put-answer-spec =
@@ -49,7 +46,7 @@ put-answer-spec =
     (λ c κs. search needs)
     (λ c κs. search needs)
     (λ c κs. search needs)
-    put-shown-requires
+    (λ c κs. search needs)
     (λ c κs. search needs)
     (λ c. search needs)
     returns)

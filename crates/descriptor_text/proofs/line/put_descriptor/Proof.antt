@@ -22,7 +22,7 @@ returns c =
     (second .before .before .before .before .before .put-byte .ensures)
     (second .put-hex2 .ensures)
     (bytes .before .before .before .before .before .put-byte2 .ensures)
-    (bytes .put-bytes .ensures)
+    (bytes .put-shown .ensures)
     (c .before .before .put-byte3 .ensures)
 
 pub put-descriptor-spec : {M : Type 1} → statement M
