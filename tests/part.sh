@@ -100,6 +100,11 @@ add() {
     tally "$status" "$room/out"
 }
 
+# ---- Documents
+
+# fenced DOCUMENT SECTION KIND: the first fenced block of a kind in a section.
+fenced() { awk -v section="## $2" -v fence='```'"$3" '/^## / { here = $0 == section } here && $0 == fence { on = 1; next } on && /^```$/ { exit } on' "$1"; }
+
 # ---- Bytes
 
 # The bytes of hexadecimal digits, with or without spaces between, `-` being none; and so many zero bytes.

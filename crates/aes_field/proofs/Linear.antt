@@ -8,21 +8,13 @@ use native.Mathlib.Omega.{arith}
 use lib.Dec.{eqb, lit<}
 use lib.Bits.{bitXor, xor-shr, xor-mod, xor-block}
 use Rattle.octets.specs.Lent.{when}
-use Rattle.octets.proofs.Xor.{xor-byte, xor-exchange}
+use Rattle.octets.proofs.Xor.{xor-byte, xor-exchange, xor-digits-times}
 use Rattle.aes_field.specs.Field.{xtime, sumOfShifts, times}
 use Rattle.aes_field.specs.Words.{sum4}
 
 xor-double : (a b : ℕ) → bitXor a b * 2 ≡ bitXor (a * 2) (b * 2)
 xor-double a b =
     sym (add-zero (bitXor a b * 2)) ∙ sym (xor-block 1 a b 0 0 (lit< tt) (lit< tt)) ∙ ap₂ bitXor (add-zero (a * 2)) (add-zero (b * 2))
-
--- the top bits, as the polynomial they bring back
-digit-times : (x y : ℕ) → x < 2 → y < 2 → bitXor x y * 27 ≡ bitXor (x * 27) (y * 27)
-digit-times zero y hx hy = refl
-digit-times (suc zero) zero hx hy = refl
-digit-times (suc zero) (suc zero) hx hy = refl
-digit-times (suc zero) (suc (suc y)) hx hy = absurd (omega arith)
-digit-times (suc (suc x)) y hx hy = absurd (omega arith)
 
 pub xtime-byte : {a : ℕ} → a < 256 → xtime a < 256
 unfolding xtime
@@ -32,7 +24,7 @@ pub xtime-linear : {a b : ℕ} → a < 256 → b < 256 → xtime (bitXor a b) �
 unfolding xtime
 xtime-linear {a} {b} ha hb =
     ap₂ bitXor (ap (λ (x : ℕ). x % 256) (xor-double a b) ∙ xor-mod (a * 2) (b * 2) 8)
-    (ap (λ (x : ℕ). x * 27) (xor-shr a b 7) ∙ digit-times (a / 128) (b / 128) (omega arith) (omega arith))
+    (ap (λ (x : ℕ). x * 27) (xor-shr a b 7) ∙ xor-digits-times (a / 128) (b / 128) 27 (omega arith) (omega arith))
     ∙ xor-exchange (a * 2 % 256) (b * 2 % 256) (a / 128 * 27) (b / 128 * 27)
 
 when-byte : {s a : ℕ} (t : Bool) → s < 256 → a < 256 → when t (bitXor s a) s < 256

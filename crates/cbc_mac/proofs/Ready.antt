@@ -6,7 +6,7 @@ use mathlib.Core.List.{List, [], _∷_}
 use Prim.Native.Nat.{ℕ, _+_, _%_}
 use lib.Dec.{eqb}
 use lib.ListN.{length, length-set}
-use Rattle.octets.specs.Blocks.{cut, chain}
+use Rattle.octets.specs.Blocks.{IsBlock, cut, chain}
 use Rattle.octets.specs.Bytes.{Bytes}
 use Rattle.octets.specs.Lent.{when}
 use Rattle.octets.specs.Running.{addAt, afterByte, absorb, close}
@@ -20,7 +20,6 @@ use Rattle.aes_fast.specs.ByTables.{Tables, cipherBy}
 use Rattle.aes_fast.specs.Laws.{Ciphered}
 use Rattle.aes_fast.specs.Right.{Ready}
 use Rattle.aes_fast.proofs.Laws.{cipherBy-length, ready-bytes, ready-cipher}
-use Rattle.cbc_mac.specs.Laws.{IsBlock}
 
 module _ (t : Tables) (ks : List State) (ready : Ready t ks) where
   abbrev f : List ℕ → List ℕ

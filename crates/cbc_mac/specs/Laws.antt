@@ -5,8 +5,7 @@
 use mathlib.Core.Path.{_≡_}
 use Prim.Native.Nat.{ℕ, _%_}
 use mathlib.Core.List.{List}
-use lib.ListN.{length}
-use Rattle.octets.specs.Blocks.{cut, chain}
+use Rattle.octets.specs.Blocks.{IsBlock, cut, chain}
 use Rattle.octets.specs.Bytes.{Bytes}
 use Rattle.octets.specs.Running.{absorb, close}
 use Rattle.octets.specs.Unique.{Unique}
@@ -14,11 +13,6 @@ use Rattle.aes.specs.State.{State}
 use Rattle.aes.specs.Cipher.{cipher}
 use Rattle.aes_fast.specs.ByTables.{Tables, cipherBy}
 use Rattle.aes_fast.specs.Right.{Ready}
-
--- a state of a chain: a block of bytes
-pub record IsBlock (y : List ℕ) : Type 0 where
-  pub size : length y ≡ 16
-  pub bytes : Bytes y
 
 -- ---- with ready tables and keys
 

@@ -46,7 +46,7 @@ length-lowBits zero n = refl
 length-lowBits (suc b) n = length-append (lowBits b (n / 2)) (n % 2 ∷ []) ∙ omega (arith, length-lowBits b (n / 2))
 
 -- the last bit apart
-adds-last : (b v n : ℕ) → adds (suc b) v n ≡ bitXor (adds b v (n / 2)) (n % 2 * timesXs b v)
+pub adds-last : (b v n : ℕ) → adds (suc b) v n ≡ bitXor (adds b v (n / 2)) (n % 2 * timesXs b v)
 unfolding adds lowBits
 adds-last b v n =
     multiply-append (lowBits b (n / 2)) (n % 2 ∷ []) 0 v
@@ -136,7 +136,7 @@ byte-bits n =
     cons-equal (omega arith) (cons-equal (omega arith) (cons-equal (omega arith) (cons-equal (omega arith)
     (cons-equal (omega arith) (cons-equal (omega arith) (cons-equal (omega arith) (cons-equal (omega arith) refl)))))))
 
-multiply-be : (w n v : ℕ) → multiply (bits (be w n)) 0 v ≡ adds (8 * w) v n
+pub multiply-be : (w n v : ℕ) → multiply (bits (be w n)) 0 v ≡ adds (8 * w) v n
 unfolding adds lowBits
 multiply-be zero n v = refl
 multiply-be (suc w) n v =

@@ -2,14 +2,36 @@
 -- Assumes nothing.
 use mathlib.Core.Path.{_≡_, refl, sym, ap, ap₂, _∙_}
 use mathlib.Core.List.{List, [], _∷_, _++_, append-nil}
-use Prim.Native.Nat.{ℕ, zero, suc, _+_, _*_, _-_, _≤_, _<_}
+use Prim.Native.Nat.{ℕ, zero, suc, _+_, _*_, _-_, _^_, _≤_, _<_}
 use native.Mathlib.Omega.{arith}
 use lib.ListN.{length, take, drop, replicate, length-append, length-drop, length-replicate, drop-of-length-le}
 use lib.Seq.{take-all, take-append-le, drop-append-le, drop-drop, length-take-le}
 use Rattle.octets.specs.Bytes.{Bytes}
 use Rattle.octets.specs.Xor.{xors}
-use Rattle.octets.specs.Blocks.{blocks, fill, cutInto, cut, chain}
+use Rattle.octets.specs.BigEndian.{be, number}
+use Rattle.octets.specs.Blocks.{IsBlock, blocks, fill, cutInto, cut, chain}
 use Rattle.octets.proofs.Values.{cons-equal}
+use Rattle.octets.proofs.Bytes.{bytes-zeros}
+use Rattle.octets.proofs.BigEndian.{length-be, bytes-be, be-number, number-lt}
+use Rattle.octets.proofs.Xor.{length-xors, bytes-xors}
+
+-- ---- a block
+
+pub block-zeros : IsBlock (replicate 16 0)
+block-zeros = record { size = refl; bytes = bytes-zeros 16 }
+
+pub block-be : (n : ℕ) → IsBlock (be 16 n)
+block-be n = record { size = length-be 16 n; bytes = bytes-be 16 n }
+
+-- it is the bytes of its number
+pub block-number : {b : List ℕ} → IsBlock b → be 16 (number b) ≡ b
+block-number {b} h = ap (λ (w : ℕ). be w (number b)) (sym (h .size)) ∙ be-number (h .bytes)
+
+pub block-lt : {b : List ℕ} → IsBlock b → number b < 2 ^ 128
+block-lt h = rw (h .size) at (number-lt (h .bytes))
+
+pub block-xors : {a b : List ℕ} → IsBlock a → IsBlock b → IsBlock (xors a b)
+block-xors {a} {b} ha hb = record { size = length-xors a b (omega (arith, ha .size, hb .size)) ∙ ha .size; bytes = bytes-xors (ha .bytes) (hb .bytes) }
 
 -- ---- a block or less, filled
 

@@ -3,7 +3,7 @@
 use mathlib.Core.Path.{_≡_, refl, sym, ap, ap₂, _∙_}
 use mathlib.Core.List.{List, [], _∷_, _++_}
 use Prim.Native.Nat.{ℕ, zero, suc, _+_, _*_, _/_, _%_, _≤_, _<_}
-use native.Mathlib.Nat.{le-of-suc-le-suc, not-suc-le-zero, mod-lt}
+use native.Mathlib.Nat.{le-of-suc-le-suc, not-suc-le-zero, mod-lt, zero-mul, one-mul}
 use native.Mathlib.Omega.{arith}
 use lib.Arith.{bin-ind}
 use lib.Bits.{bitXor, differ, xor-step, xor-shr, xor-mod, xor-lt, xor-comm, xor-self, xor-zero-r}
@@ -14,6 +14,11 @@ use Rattle.octets.specs.Bytes.{Bytes}
 use Rattle.octets.specs.Xor.{xors}
 use Rattle.octets.proofs.Values.{cons-equal, values-later}
 use Rattle.octets.proofs.Bytes.{bytes-nil, bytes-cons, bytes-head, bytes-tail}
+
+-- two sums of two, with the inner terms exchanged, of whatever may be bracketed and ordered freely
+module _ {A : Type 0} (f : A → A → A) (assoc : (a b c : A) → f (f a b) c ≡ f a (f b c)) (comm : (a b : A) → f a b ≡ f b a) where
+  exchange : (a b c d : A) → f (f a b) (f c d) ≡ f (f a c) (f b d)
+  exchange a b c d = assoc a b (f c d) ∙ ap (f a) (sym (assoc b c d) ∙ ap (λ (x : A). f x d) (comm b c) ∙ assoc c b d) ∙ sym (assoc a c (f b d))
 
 -- ---- numbers
 
@@ -34,7 +39,7 @@ differ-xor (suc zero) (suc zero) hx hy = refl
 differ-xor (suc zero) (suc (suc y)) hx hy = absurd (omega arith)
 differ-xor (suc (suc x)) y hx hy = absurd (omega arith)
 
-digit-lt : (a : ℕ) → a % 2 < 2
+pub digit-lt : (a : ℕ) → a % 2 < 2
 digit-lt a = mod-lt a (lit< tt)
 
 xor-digit : (a b : ℕ) → bitXor a b % 2 ≡ differ (a % 2) (b % 2)
@@ -51,15 +56,24 @@ xor-assoc =
     ∙ ap (differ (n % 2)) (sym (xor-digit b c)))
     ∙ sym (xor-step n (bitXor b c)))
 
--- two sums of two, with the inner terms exchanged
 pub xor-exchange : (a b c d : ℕ) → bitXor (bitXor a b) (bitXor c d) ≡ bitXor (bitXor a c) (bitXor b d)
-xor-exchange a b c d =
-    xor-assoc a b (bitXor c d)
-    ∙ ap (bitXor a) (sym (xor-assoc b c d) ∙ ap (λ (x : ℕ). bitXor x d) (xor-comm b c) ∙ xor-assoc c b d)
-    ∙ sym (xor-assoc a c (bitXor b d))
+xor-exchange = exchange bitXor xor-assoc xor-comm
 
 pub xor-cancel : (a k : ℕ) → bitXor (bitXor a k) k ≡ a
 xor-cancel a k = xor-assoc a k k ∙ ap (bitXor a) (xor-self k) ∙ xor-zero-r a
+
+-- a digit 0 or 1 times an exclusive or, and the exclusive or of two digits as a factor
+pub digit-times-xor : (x a b : ℕ) → x < 2 → x * bitXor a b ≡ bitXor (x * a) (x * b)
+digit-times-xor zero a b h = zero-mul (bitXor a b) ∙ sym (ap₂ bitXor (zero-mul a) (zero-mul b))
+digit-times-xor (suc zero) a b h = one-mul (bitXor a b) ∙ sym (ap₂ bitXor (one-mul a) (one-mul b))
+digit-times-xor (suc (suc x)) a b h = absurd (omega arith)
+
+pub xor-digits-times : (x y v : ℕ) → x < 2 → y < 2 → bitXor x y * v ≡ bitXor (x * v) (y * v)
+xor-digits-times zero y v hx hy = sym (ap (λ (n : ℕ). bitXor n (y * v)) (zero-mul v))
+xor-digits-times (suc zero) zero v hx hy = sym (ap (bitXor (1 * v)) (zero-mul v) ∙ xor-zero-r (1 * v))
+xor-digits-times (suc zero) (suc zero) v hx hy = zero-mul v ∙ sym (xor-self (1 * v))
+xor-digits-times (suc zero) (suc (suc y)) v hx hy = absurd (omega arith)
+xor-digits-times (suc (suc x)) y v hx hy = absurd (omega arith)
 
 pub xor-byte : {a b : ℕ} → a < 256 → b < 256 → bitXor a b < 256
 xor-byte {a} {b} ha hb = xor-lt 8 a b ha hb
@@ -77,6 +91,9 @@ xors-assoc [] b c = refl
 xors-assoc (x ∷ a) [] c = refl
 xors-assoc (x ∷ a) (y ∷ b) [] = refl
 xors-assoc (x ∷ a) (y ∷ b) (z ∷ c) = cons-equal (xor-assoc x y z) (xors-assoc a b c)
+
+pub xors-exchange : (a b c d : List ℕ) → xors (xors a b) (xors c d) ≡ xors (xors a c) (xors b d)
+xors-exchange = exchange xors xors-assoc xors-comm
 
 pub xors-cancel : (a k : List ℕ) → length a ≤ length k → xors (xors a k) k ≡ a
 xors-cancel [] k h = refl

@@ -1,9 +1,16 @@
 -- Strings in blocks of 16 bytes, as SP 800-38C and SP 800-38D cut them, and a chain along them.
 -- Assumes nothing.
+use mathlib.Core.Path.{_≡_}
 use Prim.Native.Nat.{ℕ, zero, suc, _+_, _-_, _/_}
 use mathlib.Core.List.{List, [], _∷_, _++_}
 use lib.ListN.{length, take, drop, replicate}
+use Rattle.octets.specs.Bytes.{Bytes}
 use Rattle.octets.specs.Xor.{xors}
+
+-- a block of bytes
+pub record IsBlock (b : List ℕ) : Type 0 where
+  pub size : length b ≡ 16
+  pub bytes : Bytes b
 
 -- how many blocks n bytes take
 abbrev pub blocks : ℕ → ℕ

@@ -5,10 +5,10 @@ use Prim.Native.Nat.{_%_}
 use native.Mathlib.Omega.{arith}
 use borrow.Author.Needs.{needs}
 use lib.ListN.{length}
+use Rattle.octets.specs.Blocks.{IsBlock}
 use Rattle.octets.specs.Running.{close}
 use Rattle.octets.proofs.Arrays.{array-bytes}
 use Rattle.aes_fast.specs.ByTables.{cipherBy}
-use Rattle.cbc_mac.specs.Laws.{IsBlock}
 use Rattle.cbc_mac.proofs.Ready.{chain-ciphered}
 use Rattle.cbc_mac.proofs.chain_along.Statement.{statement}
 use Rattle.cbc_mac.proofs.chain_along.Tie as tie

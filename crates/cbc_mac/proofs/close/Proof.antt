@@ -3,8 +3,8 @@
 use Prim.Native.Nat.{_%_}
 use borrow.Author.Needs.{needs}
 use borrow.Author.Tests.{eq-eqb, ne-eqb}
+use Rattle.octets.specs.Blocks.{IsBlock}
 use Rattle.octets.proofs.Arrays.{array-bytes}
-use Rattle.cbc_mac.specs.Laws.{IsBlock}
 use Rattle.cbc_mac.proofs.Ready.{close-ciphered}
 use Rattle.cbc_mac.proofs.close.Statement.{statement}
 use Rattle.cbc_mac.proofs.close.Tie as tie
