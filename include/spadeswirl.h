@@ -318,7 +318,8 @@ uint8_t spadeswirl_page_read(const uint8_t *page, size_t page_len,
  * Loads the key of a page: its own, that of the row of a reference, or a
  * wrapped one, by the row of its identifier. Fills the first
  * SPADESWIRL_KEY_BYTES of the output and stores the fields. Numbers: 0; 1, for
- * every format; 2, 3 and 4 as for spadeswirl_page_read; 5; 6; 7; 8; 9.
+ * every format; 2, 3 and 4 as for spadeswirl_page_read; 5; 6; 7; 8; 9, where no
+ * key wraps to a wrapped key's bytes under that row (docs/WHY_NINE.md).
  */
 uint8_t spadeswirl_page_load(const uint8_t *table, size_t table_len,
                              const uint8_t *page, size_t page_len,

@@ -105,6 +105,18 @@ add() {
 # fenced DOCUMENT SECTION KIND: the first fenced block of a kind in a section.
 fenced() { awk -v section="## $2" -v fence='```'"$3" '/^## / { here = $0 == section } here && $0 == fence { on = 1; next } on && /^```$/ { exit } on' "$1"; }
 
+# bytes_of NAME: the bytes that a line `NAME = BYTES` of the document $page gives.
+bytes_of() { sed -n "s/^$1  *= //p" "$page" | sed 's/ *#.*//; s/ //g'; }
+
+# stated FILE ..: each statement that the document $page names, in backticks and with a capital letter, is one of these files'.
+stated() {
+    local name
+    for name in $(grep -o '`[A-Z][A-Za-z]*`' "$page" | tr -d '`'); do
+        grep -q "^abbrev pub $name : Type 0" "$@"
+        test_that $? "$page names $name, which is not stated in $*"
+    done
+}
+
 # ---- Bytes
 
 # The bytes of hexadecimal digits, with or without spaces between, `-` being none; and so many zero bytes.

@@ -67,19 +67,26 @@ static inline int aead_decrypt(int ccm, struct bytes key, struct bytes iv, struc
     return right;
 }
 
-/* A key of 32 bytes into 40, and back where the start value is right. */
-static inline int key_wrap(int wrap, const unsigned char *kek, const unsigned char *in, unsigned char *out)
+/* A key of 32 bytes into 40, and back where the start value is right, by a cipher for wrapping; its own start value where NULL is given. */
+static inline int key_wrap_as(const EVP_CIPHER *cipher, int wrap, const unsigned char *kek, const unsigned char *start,
+                              const unsigned char *in, unsigned char *out)
 {
     int n, done;
     unsigned char room[64];
     EVP_CIPHER_CTX *c = EVP_CIPHER_CTX_new();
     EVP_CIPHER_CTX_set_flags(c, EVP_CIPHER_CTX_FLAG_WRAP_ALLOW);
-    must(EVP_CipherInit_ex(c, EVP_aes_256_wrap(), NULL, kek, NULL, wrap), "wrap");
+    must(EVP_CipherInit_ex(c, cipher, NULL, kek, start, wrap), "wrap");
     done = EVP_CipherUpdate(c, room, &n, in, wrap ? 32 : 40) > 0 && n == (wrap ? 40 : 32);
     if (done)
         memcpy(out, room, (size_t)n);
     EVP_CIPHER_CTX_free(c);
     return done;
+}
+
+/* By AES Key Wrap with AES-256. */
+static inline int key_wrap(int wrap, const unsigned char *kek, const unsigned char *in, unsigned char *out)
+{
+    return key_wrap_as(EVP_aes_256_wrap(), wrap, kek, NULL, in, out);
 }
 
 #endif

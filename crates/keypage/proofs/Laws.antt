@@ -4,32 +4,29 @@ use mathlib.Core.Path.{_≡_, refl, sym, ap, _∙_}
 use mathlib.Core.Logic.{_↔_}
 use mathlib.Core.List.{List}
 use mathlib.Core.Option.{some}
-use Prim.Native.Nat.{ℕ, _+_}
-use borrow.Author.Tests.{eq-eqb}
+use Prim.Native.Nat.{ℕ}
+use native.Mathlib.Omega.{arith}
 use lib.ListN.{length}
-use Rattle.octets.specs.Bytes.{Bytes}
 use Rattle.octets.specs.Lent.{over}
-use Rattle.octets.proofs.Bytes.{bytes-take, bytes-drop}
 use Rattle.octets.proofs.Unique.{unique}
 use Rattle.keytable.specs.Row.{rowKeySize, useOf, rowKey}
 use Rattle.keytable.specs.Table.{rowFor, dataRow}
 use Rattle.keytable.proofs.Laws.{rowFor-good}
-use Rattle.keywrap.specs.Calls.{wrappedSize, unwrapAnswer}
-use Rattle.keywrap.specs.Laws.{WrapsTo, UnwrapsTo}
-use Rattle.keywrap.proofs.Laws.{unwraps-exactly, wrapped-length}
-use Rattle.keypage.specs.Page.{keyPartAt, algorithmIn, formatIn, keyLength, keyPart, fieldsOf}
-use Rattle.keypage.specs.KeyPart.{plainFormat, referenceFormat, wrappedFormat, kekUse, identifierAt, identifierSize, identifierOf, wrappedOf}
+use Rattle.keywrap.specs.Laws.{UnwrapsTo}
+use Rattle.keywrap.proofs.Laws.{unwraps-exactly, one-key, unwrap-nine-exactly, wrapped-length}
+use Rattle.keypage.specs.Page.{algorithmIn, formatIn, keyPart, fieldsOf}
+use Rattle.keypage.specs.KeyPart.{plainFormat, referenceFormat, wrappedFormat, kekUse, identifierOf, wrappedOf}
 use Rattle.keypage.specs.Read.{pageReadAnswer}
-use Rattle.keypage.specs.Load.{keyIn, keyLoaded, partAnswer, loadAnswer}
-use Rattle.keypage.specs.Laws.{Readable, ReadsExactly, Loads, LoadsPlain, LoadsReference, LoadsWrapped, NoRowSix}
+use Rattle.keypage.specs.Load.{keyIn, keyLoaded, loadAnswer}
+use Rattle.keypage.specs.Laws.{Readable, ReadsExactly, Loads, LoadsPlain, LoadsReference, WrapsUnder, LoadsWrapped, NoRowSix}
+use Rattle.keypage.specs.Laws.{KekMatched, LoadsWhatWraps, OneKeyWraps, LoadNineExactly, NineSays}
 use Rattle.keypage.specs.Laws.{LoadOtherRows, PageReadTestsRise, PartTestsRise, LoadTestsRise, PageReadUnique, LoadUnique}
 use Rattle.keypage.proofs.ReadNumbers.{read-passed, page-fields}
 use Rattle.keypage.proofs.Page.{passed-read, passed-readable, readable-passed, answer-told, read-part}
 use Rattle.keypage.proofs.KeyPart.{known, known-needs, plain-size}
-use Rattle.keypage.proofs.LoadNumbers.{wrapped-rest}
-use Rattle.keypage.proofs.Load.{partNumber, part-row, part-none, part-use, reference-passed, wrapped-size, load-six, load-told, load-written, load-key, key-loads}
-use Rattle.keytable.proofs.RowFound.{row-key-bytes}
-use Rattle.octets.proofs.Lent.{answer-done, answer-zero}
+use Rattle.keypage.proofs.Load.{part-passed, part-row, part-none, part-use, reference-passed, load-six, load-told, load-key, key-loads}
+use Rattle.keypage.proofs.Matched.{matched-row, kek-size, kek-bytes, unwrapping, unwrapped-loads, loaded-unwraps, wrapped-bytes-of}
+use Rattle.keypage.proofs.Nine.{nine-matched}
 
 -- ---- reading
 
@@ -62,11 +59,12 @@ loads-reference t p out fields k given is = (to, from)
     to : Loads t p out fields k → Row
     to h =
         let zero = load-told t p out fields given referenceFormat is k h in
-        let (row, has) = part-row (dataRow t (keyPart p)) (algorithmIn p) referenceFormat (keyPart p) refl zero in
+        let no = part-passed (dataRow t (keyPart p)) (algorithmIn p) referenceFormat (keyPart p) zero in
+        let (row, has) = part-row (dataRow t (keyPart p)) (algorithmIn p) referenceFormat (keyPart p) refl (no 0) in
         let size : length (keyIn (dataRow t (keyPart p))) ≡ rowKeySize = rw has (rowFor-good t (keyPart p) row (given .table-accepted) has .key-size) in (
           row,
           has,
-          part-use row (algorithmIn p) referenceFormat (keyPart p) refl (rw has at zero),
+          part-use row (algorithmIn p) referenceFormat (keyPart p) refl (rw has at (no 1)),
           ap keyIn (sym has) ∙ load-key t p out fields given referenceFormat is k size h,
         )
 
@@ -76,50 +74,71 @@ loads-reference t p out fields k given is = (to, from)
         (sym (ap length key-is) ∙ rowFor-good t (keyPart p) row (given .table-accepted) has .key-size)
         (ap (λ (l : List ℕ). over l out) (ap keyIn has ∙ key-is))
 
+-- ---- a wrapped key, by what wraps
+
+pub load-nine-exactly : LoadNineExactly
+load-nine-exactly t p out fields row bytes-t bytes-p m = (to, from)
+  where
+    by-wrapping : (unwrapping t p out row m ≡ (9, out)) ↔ ((k : List ℕ) → WrapsUnder row k p → ⊥)
+    by-wrapping =
+        unwrap-nine-exactly (rowKey row) (wrappedOf (keyPart p)) out (kek-size t p out row m) (kek-bytes t p out row m bytes-t) (m .size)
+        (wrapped-bytes-of p bytes-p) (m .given .key-fits)
+
+    to : loadAnswer t p out fields ≡ ((9, out), fields) → (k : List ℕ) → WrapsUnder row k p → ⊥
+    to e = by-wrapping .0 (loaded-unwraps t p out row m fields (9, out) fields e)
+
+    from : ((k : List ℕ) → WrapsUnder row k p → ⊥) → loadAnswer t p out fields ≡ ((9, out), fields)
+    from none = unwrapped-loads t p out row m fields (9, out) (by-wrapping .1 none)
+
+pub loads-what-wraps : LoadsWhatWraps
+loads-what-wraps t p out fields row k bytes-t bytes-p m = (to, from)
+  where
+    by-wrapping : UnwrapsTo (rowKey row) (wrappedOf (keyPart p)) out k ↔ WrapsUnder row k p
+    by-wrapping =
+        unwraps-exactly (rowKey row) (wrappedOf (keyPart p)) out k (kek-size t p out row m) (kek-bytes t p out row m bytes-t) (m .size)
+        (wrapped-bytes-of p bytes-p) (m .given .key-fits)
+
+    to : Loads t p out fields k → WrapsUnder row k p
+    to h = by-wrapping .0 (record { size = h .size; answers = loaded-unwraps t p out row m fields (0, over k out) (fieldsOf p) (h .answers) })
+
+    from : WrapsUnder row k p → Loads t p out fields k
+    from h = record { size = h .size; answers = unwrapped-loads t p out row m fields (0, over k out) (by-wrapping .1 h .answers) }
+
+pub one-key-wraps : OneKeyWraps
+one-key-wraps t p out row k k′ bytes-t m = one-key (rowKey row) k k′ (wrappedOf (keyPart p)) (kek-bytes t p out row m bytes-t)
+
+pub nine-says : NineSays
+nine-says t p out fields bytes-t bytes-p nine = (row, m, none)
+  where
+    row : List ℕ
+    row = nine-matched t p out fields nine .0
+
+    m : KekMatched t p out row
+    m = nine-matched t p out fields nine .1
+
+    none : (k : List ℕ) → WrapsUnder row k p → ⊥
+    none k h =
+        let zero = loads-what-wraps t p out fields row k bytes-t bytes-p m .1 h .answers in
+        let same : _≡_ {A = ℕ} 9 0 = sym nine ∙ ap (λ (x : (ℕ × List ℕ) × List ℕ). x .0 .0) zero in
+        absurd (omega arith)
+
 pub loads-wrapped : LoadsWrapped
 loads-wrapped t p out fields k given bytes-t bytes-p is = (to, from)
   where
-    name : List ℕ
-    name = identifierOf (keyPart p)
-
-    w : List ℕ
-    w = wrappedOf (keyPart p)
-
-    bytes-w : Bytes w
-    bytes-w = bytes-drop (identifierAt + identifierSize (keyPart p)) (bytes-take (keyLength p) (bytes-drop keyPartAt bytes-p))
-
-    -- unwrapping by the key of a row found
-    exactly : (row : List ℕ) → rowFor t name ≡ some row → length w ≡ wrappedSize → UnwrapsTo (rowKey row) w out k ↔ WrapsTo (rowKey row) k w
-    exactly row has size =
-        unwraps-exactly (rowKey row) w out k (rowFor-good t name row (given .table-accepted) has .key-size) (row-key-bytes t name row bytes-t has)
-        size bytes-w (given .key-fits)
-
     Row : Type 0
-    Row = (row : List ℕ) × (rowFor t name ≡ some row) × (useOf row ≡ kekUse) × WrapsTo (rowKey row) k w
-
-    as-unwrapped : (row : List ℕ) → rowFor t name ≡ some row → useOf row ≡ kekUse
-        → partAnswer (some row) (algorithmIn p) wrappedFormat (keyPart p) out ≡ unwrapAnswer (rowKey row) w out
-    as-unwrapped row has use-is =
-        wrapped-rest (some row) (algorithmIn p) (keyPart p) out row refl (eq-eqb (useOf row) kekUse use-is)
-        (rowFor-good t name row (given .table-accepted) has .key-size) (given .key-fits)
+    Row = (row : List ℕ) × (rowFor t (identifierOf (keyPart p)) ≡ some row) × (useOf row ≡ kekUse) × WrapsUnder row k p
 
     to : Loads t p out fields k → Row
     to h =
         let zero = load-told t p out fields given wrappedFormat is k h in
-        let (row, has) = part-row (rowFor t name) (algorithmIn p) wrappedFormat (keyPart p) refl zero in
-        let passed : partNumber (some row) (algorithmIn p) wrappedFormat (keyPart p) ≡ 0 = rw has at zero in
-        let use-is = part-use row (algorithmIn p) wrappedFormat (keyPart p) refl passed in
-        let written : over (keyLoaded (some row) wrappedFormat (keyPart p)) out ≡ over k out =
-        rw has at (load-written t p out fields given wrappedFormat is k h) in
-        let answers : unwrapAnswer (rowKey row) w out ≡ (0, over k out) =
-        sym (as-unwrapped row has use-is) ∙ answer-done _ _ out passed ∙ ap (λ (l : List ℕ). (0, l)) written in
-        (row, has, use-is, exactly row has (wrapped-size row (algorithmIn p) (keyPart p) passed) .0 (record { size = h .size; answers = answers }))
+        let no = part-passed (rowFor t (identifierOf (keyPart p))) (algorithmIn p) wrappedFormat (keyPart p) zero in
+        let (row, m) = matched-row t p out given is (no 0) (no 1) (no 2) in
+        (row, m .matched, m .kek, loads-what-wraps t p out fields row k bytes-t bytes-p m .0 h)
 
     from : Row → Loads t p out fields k
     from (row, has, use-is, wraps) =
-        let size : length w ≡ wrappedSize = sym (ap length (wraps .wraps)) ∙ wrapped-length (rowKey row) k in
-        let told = answer-zero _ _ out (over k out) (as-unwrapped row has use-is ∙ exactly row has size .1 wraps .answers) in
-        key-loads t p out fields given wrappedFormat is k (rw has (told .0)) (wraps .size) (rw has (told .1))
+        let size = sym (ap length (wraps .wraps)) ∙ wrapped-length (rowKey row) k in
+        loads-what-wraps t p out fields row k bytes-t bytes-p (record { given = given; format = is; matched = has; kek = use-is; size = size }) .1 wraps
 
 pub no-row-six : NoRowSix
 no-row-six t p out fields given other nothing =

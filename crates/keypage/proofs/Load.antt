@@ -1,7 +1,7 @@
 -- What 0 of loading tells, for an accepted table, a page that reading accepts and room: no test of the KEY part applied; and the other way.
 -- Assumes nothing.
 use mathlib.Core.Path.{_≡_, refl, sym, ap, _∙_}
-use mathlib.Core.Bool.{Bool, true, _&&_, not, false≢true}
+use mathlib.Core.Bool.{Bool, true, false, _&&_, not, false≢true}
 use mathlib.Core.List.{List}
 use mathlib.Core.Option.{Option, some, none}
 use Prim.Native.Nat.{ℕ}
@@ -10,45 +10,43 @@ use borrow.Author.Tests.{eqb-true, eq-eqb, le-ltb, not-false}
 use lib.Dec.{eqb}
 use lib.ListN.{length}
 use Rattle.octets.specs.Lent.{lowest, over}
-use Rattle.octets.proofs.Lent.{isNot-false}
 use Rattle.keytable.specs.Row.{rowKeySize, useOf}
 use Rattle.keytable.specs.Table.{tableOk}
-use Rattle.keywrap.specs.Calls.{wrappedSize}
 use Rattle.keypage.specs.Page.{algorithmIn, formatIn, keyPart, fieldsOf}
-use Rattle.keypage.specs.KeyPart.{referenceFormat, wrappedFormat, wrappedOf, needsRow, useFor}
+use Rattle.keypage.specs.KeyPart.{referenceFormat, needsRow, useFor}
 use Rattle.keypage.specs.Load.{rowNamed, partTests, keyLoaded, loadNumber, loadRow, loadAnswer}
 use Rattle.keypage.specs.Laws.{Given, Loads}
-use Rattle.octets.proofs.Lent.{none-applies, over-injective}
+use Rattle.octets.proofs.Lent.{testAt, none-applies, over-injective}
 use Rattle.keypage.proofs.LoadNumbers.{load-number}
 
--- ---- the KEY part's own tests, 6 to 9
+-- ---- the KEY part's own tests, 6 to 9, and what each tells that does not apply
 
 abbrev pub partNumber : Option (List ℕ) → ℕ → ℕ → List ℕ → ℕ
 partNumber row algorithm f s = lowest (partTests row algorithm f s)
 
--- where a row is needed, 0 tells that there is one
-pub part-row : (o : Option (List ℕ)) (algorithm f : ℕ) (s : List ℕ) → needsRow f ≡ true → partNumber o algorithm f s ≡ 0 → (row : List ℕ) × (o ≡ some row)
-part-row none algorithm f s needs e =
-    absurd (false≢true (sym (none-applies (partTests none algorithm f s) 0 refl e) ∙ rw needs))
-part-row (some row) algorithm f s needs e = (row, refl)
+-- where 0 is given none does
+pub part-passed : (o : Option (List ℕ)) (algorithm f : ℕ) (s : List ℕ) → partNumber o algorithm f s ≡ 0 → (i : ℕ) → testAt (partTests o algorithm f s) i ≡ false
+part-passed o algorithm f s e i = none-applies (partTests o algorithm f s) i refl e
+
+-- where a row is needed and 6 does not apply there is one
+pub part-row : (o : Option (List ℕ)) (algorithm f : ℕ) (s : List ℕ) → needsRow f ≡ true → testAt (partTests o algorithm f s) 0 ≡ false
+    → (row : List ℕ) × (o ≡ some row)
+part-row none algorithm f s needs six = absurd (false≢true (sym six ∙ rw needs))
+part-row (some row) algorithm f s needs six = (row, refl)
 
 pub part-none : (algorithm f : ℕ) (s : List ℕ) → needsRow f ≡ true → partNumber none algorithm f s ≡ 6
 part-none algorithm f s needs = rw needs
 
--- and that its use is the one needed
-pub part-use : (row : List ℕ) (algorithm f : ℕ) (s : List ℕ) → needsRow f ≡ true → partNumber (some row) algorithm f s ≡ 0 → useOf row ≡ useFor f algorithm
-part-use row algorithm f s needs e =
+-- and where 7 does not, its use is the one needed
+pub part-use : (row : List ℕ) (algorithm f : ℕ) (s : List ℕ) → needsRow f ≡ true → testAt (partTests (some row) algorithm f s) 1 ≡ false
+    → useOf row ≡ useFor f algorithm
+part-use row algorithm f s needs seven =
     let same = eqb (useOf row) (useFor f algorithm) in
-    let tested = none-applies (partTests (some row) algorithm f s) 1 refl e in
-    eqb-true (useOf row) (useFor f algorithm) (not-false same (sym (ap (λ (b : Bool). b && not same) needs) ∙ tested))
+    eqb-true (useOf row) (useFor f algorithm) (not-false same (sym (ap (λ (b : Bool). b && not same) needs) ∙ seven))
 
-module _ (row : List ℕ) (algorithm : ℕ) (s : List ℕ) where
-  -- of a reference nothing else is tested
-  pub reference-passed : useOf row ≡ algorithm → partNumber (some row) algorithm referenceFormat s ≡ 0
-  reference-passed e = rw (eq-eqb (useOf row) algorithm e)
-
-  pub wrapped-size : partNumber (some row) algorithm wrappedFormat s ≡ 0 → length (wrappedOf s) ≡ wrappedSize
-  wrapped-size e = isNot-false wrappedSize (wrappedOf s) (none-applies (partTests (some row) algorithm wrappedFormat s) 2 refl e)
+-- of a reference nothing else is tested
+pub reference-passed : (row : List ℕ) (algorithm : ℕ) (s : List ℕ) → useOf row ≡ algorithm → partNumber (some row) algorithm referenceFormat s ≡ 0
+reference-passed row algorithm s e = rw (eq-eqb (useOf row) algorithm e)
 
 -- ---- the whole call, by a format, the row found for it and the key it then gives
 
@@ -62,21 +60,21 @@ abbrev pub keyGiven : List ℕ → List ℕ → ℕ → List ℕ
 keyGiven t p f = keyLoaded (rowGiven t p f) f (keyPart p)
 
 module _ (t p out fields : List ℕ) (given : Given t p out) where
-  left : loadNumber (tableOk t) (rowGiven t p (formatIn p)) p (length out) ≡ numberIn t p (formatIn p)
-  left = load-number (tableOk t) (rowGiven t p (formatIn p)) p (length out) (given .table-accepted) (given .readable) (le-ltb (length out) rowKeySize (given .key-fits))
+  pub load-left : loadNumber (tableOk t) (rowGiven t p (formatIn p)) p (length out) ≡ numberIn t p (formatIn p)
+  load-left = load-number (tableOk t) (rowGiven t p (formatIn p)) p (length out) (given .table-accepted) (given .readable) (le-ltb (length out) rowKeySize (given .key-fits))
 
   module _ (f : ℕ) (is : formatIn p ≡ f) where
     pub load-zero : numberIn t p f ≡ 0 → loadAnswer t p out fields ≡ ((0, over (keyGiven t p f) out), fieldsOf p)
     unfolding loadRow
-    load-zero e = rw (left ∙ ap (numberIn t p) is ∙ e) (ap (λ (g : ℕ). ((0, over (keyGiven t p g) out), fieldsOf p)) is)
+    load-zero e = rw (load-left ∙ ap (numberIn t p) is ∙ e) (ap (λ (g : ℕ). ((0, over (keyGiven t p g) out), fieldsOf p)) is)
 
     pub load-six : numberIn t p f ≡ 6 → loadAnswer t p out fields ≡ ((6, out), fields)
     unfolding loadRow
-    load-six e = rw (left ∙ ap (numberIn t p) is ∙ e)
+    load-six e = rw (load-left ∙ ap (numberIn t p) is ∙ e)
 
     pub load-told : (k : List ℕ) → Loads t p out fields k → numberIn t p f ≡ 0
     unfolding loadRow
-    load-told k h = sym (left ∙ ap (numberIn t p) is) ∙ ap (λ (x : (ℕ × List ℕ) × List ℕ). x .0 .0) (h .answers)
+    load-told k h = sym (load-left ∙ ap (numberIn t p) is) ∙ ap (λ (x : (ℕ × List ℕ) × List ℕ). x .0 .0) (h .answers)
 
     -- and what was written is k
     pub load-written : (k : List ℕ) → Loads t p out fields k → over (keyGiven t p f) out ≡ over k out

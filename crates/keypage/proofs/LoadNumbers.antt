@@ -86,14 +86,14 @@ module _ (ok : Bool) (row : Option (List ℕ)) (p out fields : List ℕ) where
 
       -- the KEY part decides
       module _ (fits : ltb (length out) rowKeySize ≡ false) (x : ℕ) (after : List ℕ) (e : partAnswer row (algorithmIn p) (formatIn p) (keyPart p) out ≡ (x, after)) where
-        by-the-part : loadRow ok row p out fields ≡ ((x, after), kept x (fieldsOf p) fields)
+        pub load-by-the-part : loadRow ok row p out fields ≡ ((x, after), kept x (fieldsOf p) fields)
         unfolding loadRow
-        by-the-part =
+        load-by-the-part =
             ap (λ (n : ℕ). (answer n (keyLoaded row (formatIn p) (keyPart p)) out, kept n (fieldsOf p) fields)) (load-number ok row p (length out) good readable fits)
             ∙ ap (λ (z : ℕ × List ℕ). (z, kept (z .0) (fieldsOf p) fields)) e
 
         pub load-refused : (x ≡ 0 → ⊥) → loadRow ok row p out fields ≡ ((x, after), fields)
-        load-refused refused = by-the-part ∙ rw (ne-eqb x 0 refused)
+        load-refused refused = load-by-the-part ∙ rw (ne-eqb x 0 refused)
 
         pub load-done : x ≡ 0 → (stored : List ℕ) → stored ≡ fieldsOf p → loadRow ok row p out fields ≡ ((x, after), stored)
-        load-done done stored is = by-the-part ∙ rw (done, is)
+        load-done done stored is = load-by-the-part ∙ rw (done, is)

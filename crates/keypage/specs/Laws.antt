@@ -15,6 +15,7 @@ use Rattle.octets.specs.Tests.{zeros, partOf}
 use Rattle.octets.specs.BigEndian.{numberAt}
 use Rattle.keytable.specs.Row.{rowKeySize, nameMax, useOf, rowKey}
 use Rattle.keytable.specs.Table.{tableOk, rowFor, dataRow}
+use Rattle.keywrap.specs.Calls.{wrappedSize}
 use Rattle.keywrap.specs.Laws.{WrapsTo}
 use Rattle.descriptors.specs.Laws.{Accepted}
 use Rattle.keypage.specs.Page.{pageCode, pageMax, keyPartAt, scopeIn, reservedIn, encryptionIn, decryptionIn, algorithmIn, formatIn, keyLength, keyPart, listIn, pageStrict, fieldsOf}
@@ -76,18 +77,54 @@ LoadsReference =
     (t p out fields k : List ℕ) → Given t p out → formatIn p ≡ referenceFormat
     → Loads t p out fields k ↔ ((row : List ℕ) × (dataRow t (keyPart p) ≡ some row) × (useOf row ≡ algorithmIn p) × (rowKey row ≡ k))
 
+-- k is a key of 32 bytes that wraps to the wrapped bytes of a 04h page, under a row's key
+abbrev pub WrapsUnder : List ℕ → List ℕ → List ℕ → Type 0
+WrapsUnder row k p = WrapsTo (rowKey row) k (wrappedOf (keyPart p))
+
 -- a 04h page gives k exactly when there is a KEK's row of that whole identifier and wrapping k by it gives the 40 bytes
 abbrev pub LoadsWrapped : Type 0
 LoadsWrapped =
     (t p out fields k : List ℕ) → Given t p out → Bytes t → Bytes p → formatIn p ≡ wrappedFormat
     → Loads t p out fields k
-    ↔ ((row : List ℕ) × (rowFor t (identifierOf (keyPart p)) ≡ some row) × (useOf row ≡ kekUse) × WrapsTo (rowKey row) k (wrappedOf (keyPart p)))
+    ↔ ((row : List ℕ) × (rowFor t (identifierOf (keyPart p)) ≡ some row) × (useOf row ≡ kekUse) × WrapsUnder row k p)
 
 -- "Where no row answers, the load stops there with 6."
 abbrev pub NoRowSix : Type 0
 NoRowSix =
     (t p out fields : List ℕ) → Given t p out → (formatIn p ≡ plainFormat → ⊥) → rowNamed t (formatIn p) (keyPart p) ≡ none
     → loadAnswer t p out fields ≡ ((6, out), fields)
+
+-- ---- what 9 says of a 04h page (document 02, No. 13): "It is stated over wrapping alone and not by running the unwrap."
+
+-- "table and page accepted, room for the key, a KEK row matched and 40 wrapped bytes"
+pub record KekMatched (t p out row : List ℕ) : Type 0 where
+  pub given : Given t p out
+  pub format : formatIn p ≡ wrappedFormat
+  pub matched : rowFor t (identifierOf (keyPart p)) ≡ some row
+  pub kek : useOf row ≡ kekUse
+  pub size : length (wrappedOf (keyPart p)) ≡ wrappedSize
+
+-- "the load gives a key exactly when some 32-byte key wraps to those bytes under that row": that key
+abbrev pub LoadsWhatWraps : Type 0
+LoadsWhatWraps =
+    (t p out fields row k : List ℕ) → Bytes t → Bytes p → KekMatched t p out row → Loads t p out fields k ↔ WrapsUnder row k p
+
+-- "there is at most one"
+abbrev pub OneKeyWraps : Type 0
+OneKeyWraps =
+    (t p out row k k′ : List ℕ) → Bytes t → KekMatched t p out row → WrapsUnder row k p → WrapsUnder row k′ p → k ≡ k′
+
+-- "and 9 comes exactly when there is none", with the output and the fields as they were
+abbrev pub LoadNineExactly : Type 0
+LoadNineExactly =
+    (t p out fields row : List ℕ) → Bytes t → Bytes p → KekMatched t p out row
+    → (loadAnswer t p out fields ≡ ((9, out), fields)) ↔ ((k : List ℕ) → WrapsUnder row k p → ⊥)
+
+-- and the number alone says as much: whatever the table, the page and the output, a load gives 9 only where all this is so
+abbrev pub NineSays : Type 0
+NineSays =
+    (t p out fields : List ℕ) → Bytes t → Bytes p → loadAnswer t p out fields .0 .0 ≡ 9
+    → (row : List ℕ) × KekMatched t p out row × ((k : List ℕ) → WrapsUnder row k p → ⊥)
 
 -- ---- other rows change nothing
 

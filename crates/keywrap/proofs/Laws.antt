@@ -13,7 +13,7 @@ use Rattle.octets.proofs.Unique.{unique}
 use Rattle.aes.specs.KeyExpansion.{schedule}
 use Rattle.keywrap.specs.Wrap.{wrapped, startRight, unwrappedKey}
 use Rattle.keywrap.specs.Calls.{wrapAnswer, unwrapAnswer}
-use Rattle.keywrap.specs.Laws.{WrapsTo, UnwrapsTo, UnwrapsExactly, OneKey, UnwrapElseNine, WrappedLength, WrappedBytes}
+use Rattle.keywrap.specs.Laws.{WrapsTo, UnwrapsTo, UnwrapsExactly, OneKey, UnwrapNineExactly, WrappedLength, WrappedBytes}
 use Rattle.keywrap.specs.Laws.{WrapTestsRise, UnwrapTestsRise, WrapsInRange, UnwrapsWrapped, WrapUnique, UnwrapUnique}
 use Rattle.keywrap.proofs.Parts.{length-registerBytes, bytes-registerBytes}
 use Rattle.keywrap.proofs.Inverse.{wrapSteps-formed, wrapSteps-good}
@@ -64,12 +64,21 @@ unwraps-exactly kek w out k size hk long hw room = (to, from)
 pub one-key : OneKey
 one-key kek k k′ w hk h h′ = sym (unwrappedKey-of kek hk k w h) ∙ unwrappedKey-of kek hk k′ w h′
 
-pub else-nine : UnwrapElseNine
-else-nine kek w out size hk long hw room none = answers-nine kek w out size long room (by (startRight kek w) refl)
+pub unwrap-nine-exactly : UnwrapNineExactly
+unwrap-nine-exactly kek w out size hk long hw room = (to, from)
   where
-    by : (t : Bool) → startRight kek w ≡ t → startRight kek w ≡ false
-    by true start = absurd (none (unwrappedKey kek w) (key-wraps kek hk w long hw start))
-    by false wrong = wrong
+    to : unwrapAnswer kek w out ≡ (9, out) → (k : List ℕ) → WrapsTo kek k w → ⊥
+    to e k h =
+        let zero = unwraps-exactly kek w out k size hk long hw room .1 h .answers in
+        let nine : _≡_ {A = ℕ} 9 0 = ap (λ (a : ℕ × List ℕ). a .0) (sym e ∙ zero) in
+        absurd (omega arith)
+
+    by : (t : Bool) → startRight kek w ≡ t → ((k : List ℕ) → WrapsTo kek k w → ⊥) → unwrapAnswer kek w out ≡ (9, out)
+    by true start none = absurd (none (unwrappedKey kek w) (key-wraps kek hk w long hw start))
+    by false wrong none = answers-nine kek w out size long room wrong
+
+    from : ((k : List ℕ) → WrapsTo kek k w → ⊥) → unwrapAnswer kek w out ≡ (9, out)
+    from = by (startRight kek w) refl
 
 -- ---- the calls
 

@@ -34,11 +34,11 @@ UnwrapsExactly =
 abbrev pub OneKey : Type 0
 OneKey = (kek k k′ w : List ℕ) → Bytes kek → WrapsTo kek k w → WrapsTo kek k′ w → k ≡ k′
 
--- where none does, the answer is 9 and the output as it was
-abbrev pub UnwrapElseNine : Type 0
-UnwrapElseNine =
+-- 9, with the output as it was, exactly when none does
+abbrev pub UnwrapNineExactly : Type 0
+UnwrapNineExactly =
     (kek w out : List ℕ) → length kek ≡ keySize → Bytes kek → length w ≡ wrappedSize → Bytes w → keySize ≤ length out
-    → ((k : List ℕ) → WrapsTo kek k w → ⊥) → unwrapAnswer kek w out ≡ (9, out)
+    → (unwrapAnswer kek w out ≡ (9, out)) ↔ ((k : List ℕ) → WrapsTo kek k w → ⊥)
 
 -- wrapped bytes: 40 of them, and bytes
 abbrev pub WrappedLength : Type 0

@@ -8,6 +8,7 @@ use Prim.Native.Nat.{ℕ, zero, suc, _≤_, _<_}
 use native.Mathlib.Omega.{arith}
 use borrow.Author.Tests.{eq-eqb, ne-eqb, ltb-true}
 use lib.Dec.{eqb, ltb}
+use lib.ListN.{getD}
 use Rattle.octets.specs.Lent.{Tests, when, lowest}
 use Rattle.octets.specs.Lowest.{risesAbove, rises, AppliesAt, LowestIs}
 use Rattle.octets.proofs.Tests.{and-left, and-right}
@@ -41,6 +42,11 @@ lowest-least least (t ∷ ts) h i m e =
 
 pub lowest-is : LowestIs
 lowest-is ts h = record { applies = lowest-given ts; least = λ i m e. lowest-least 0 ts h i m e }
+
+-- a test of a lower number than the one given does not apply
+pub lower-none : (ts : Tests) (i m : ℕ) (b : Bool) → rises ts ≡ true → getD ts i (0, false) ≡ (m, b) → m < lowest ts → b ≡ false
+lower-none ts i m true h e below = absurd (omega (arith, below, lowest-least 0 ts h i m e .1))
+lower-none ts i m false h e below = refl
 
 -- ---- tests after others: the first list decides, unless it gives 0
 

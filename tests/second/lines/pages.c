@@ -1,8 +1,8 @@
 /*
  * Lines of calls on key pages: document 01's page; pages of every format with 0 to 3 descriptors; every byte changed,
- * every length; KEY parts at their boundaries; names that begin alike; rooms; broken tables; lengths about the maximum
- * and about PAGE LENGTH's; every choice of flaws at once; any pages, whole and damaged. Inputs come from a seed, which
- * is printed.
+ * every length; KEY parts at their boundaries; keys wrapped by other methods; names that begin alike; rooms; broken
+ * tables; lengths about the maximum and about PAGE LENGTH's; every choice of flaws at once; any pages, whole and
+ * damaged. Inputs come from a seed, which is printed.
  */
 #include "page_parts.h"
 
@@ -152,6 +152,23 @@ static void parts(void)
     for (unsigned bit = 0; bit < 256; bit += 5) {
         struct row row = { named[0].name, changed(named[0].key, bit / 8, 1u << bit % 8), 3 };
         loads("another-kek", table_of(&row, 1), page_of(1, WRAPPED_KEY, part, nothing), 32);
+    }
+}
+
+/* A key wrapped under the KEK by the right method, and into 40 bytes by others: another start value, padding, a shorter AES. */
+static void other_methods(void)
+{
+    static const unsigned char starts[][9] = { "\xa6\xa6\xa6\xa6\xa6\xa6\xa6\xa6", "\xa6\xa6\xa6\xa6\xa6\xa6\xa6\xa7",
+        "\xa7\xa6\xa6\xa6\xa6\xa6\xa6\xa6", "\0\0\0\0\0\0\0\0" };
+    struct { const EVP_CIPHER *cipher; const unsigned char *start; } methods[] = { { EVP_aes_256_wrap(), starts[0] },
+        { EVP_aes_256_wrap(), starts[1] }, { EVP_aes_256_wrap(), starts[2] }, { EVP_aes_256_wrap(), starts[3] },
+        { EVP_aes_256_wrap_pad(), NULL }, { EVP_aes_192_wrap(), NULL }, { EVP_aes_128_wrap(), NULL } };
+    for (unsigned i = 0; i < 50; i++) {
+        struct bytes key = some(32), made = room_for(40);
+        for (size_t m = 0; m < COUNT(methods); m++) {
+            must(key_wrap_as(methods[m].cipher, 1, named[0].key.at, methods[m].start, key.at, made.at), "another wrap");
+            loads("method", holders, page_of(1, WRAPPED_KEY, wrapped_part(1 + i % 2, named[0].name, made), nothing), 32);
+        }
     }
 }
 
@@ -317,6 +334,7 @@ int main(int argc, char **argv)
     other_formats();
     names();
     parts();
+    other_methods();
     tapes(0);
     tapes(1);
     tables();
