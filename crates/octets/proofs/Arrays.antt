@@ -11,7 +11,6 @@ use denote.Laws.{Is}
 use denote.Array.{Array, each}
 use denote.Builtin.{u8}
 use Rattle.octets.specs.Bytes.{Bytes}
-use Rattle.octets.proofs.Bytes.{bytes-nil}
 
 -- what holds of every element, and of the one that is read past the end
 module _ (R : RattleType) (P : R .Denot → Type 0) (d : R .Denot) (past : P d) (one : (x : R .Denot) (us : List Val) → Is R x us → P x) where

@@ -75,6 +75,9 @@ over-end s d i e = rw e (over-shorter s d)
 pub answer-refused : (n : ℕ) (result before : List ℕ) → eqb n 0 ≡ false → answer n result before ≡ (n, before)
 answer-refused n result before e = rw e
 
+pub answer-done : (n : ℕ) (result before : List ℕ) → n ≡ 0 → answer n result before ≡ (0, over result before)
+answer-done n result before e = rw e
+
 -- a statement that is an equation has one answer
 pub one-answer : {A : Type 0} {x a b : A} → x ≡ a → x ≡ b → a ≡ b
 one-answer p q = sym p ∙ q
@@ -101,20 +104,6 @@ none-above least (n ∷ ns) i h e =
 
 pub none-applies : (ns : Tests) (i : ℕ) → rises ns ≡ true → lowest ns ≡ 0 → testAt ns i ≡ false
 none-applies = none-above 0
-
--- ---- the answer 0, and what it tells
-
-pub answer-done : (n : ℕ) (result before : List ℕ) → n ≡ 0 → answer n result before ≡ (0, over result before)
-answer-done n result before e = rw e
-
-pub answer-zero : (n : ℕ) (result before after : List ℕ) → answer n result before ≡ (0, after) → (n ≡ 0) × (over result before ≡ after)
-answer-zero n result before after e = (number, state)
-  where
-    number : n ≡ 0
-    number = ap (λ (x : ℕ × List ℕ). x .0) e
-
-    state : over result before ≡ after
-    state = ap (λ (x : ℕ × List ℕ). x .1) (sym (answer-done n result before number) ∙ e)
 
 -- ---- a result that fits, over the front of an output
 
