@@ -79,7 +79,7 @@ loads-reference t p out fields k given is = (to, from)
 pub load-nine-exactly : LoadNineExactly
 load-nine-exactly t p out fields row bytes-t bytes-p m = (to, from)
   where
-    by-wrapping : (unwrapping t p out row m ≡ (9, out)) ↔ ((k : List ℕ) → WrapsUnder row k p → ⊥)
+    by-wrapping : (unwrapping p out row ≡ (9, out)) ↔ ((k : List ℕ) → WrapsUnder row k p → ⊥)
     by-wrapping =
         unwrap-nine-exactly (rowKey row) (wrappedOf (keyPart p)) out (kek-size t p out row m) (kek-bytes t p out row m bytes-t) (m .size)
         (wrapped-bytes-of p bytes-p) (m .given .key-fits)

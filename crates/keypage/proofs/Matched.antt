@@ -40,6 +40,10 @@ module _ (t p out : List ℕ) (given : Given t p out) (is : formatIn p ≡ wrapp
         },
       )
 
+-- unwrapping a page's wrapped bytes by a row's key
+abbrev pub unwrapping : List ℕ → List ℕ → List ℕ → ℕ × List ℕ
+unwrapping p out row = unwrapAnswer (rowKey row) (wrappedOf (keyPart p)) out
+
 module _ (t p out row : List ℕ) (m : KekMatched t p out row) where
   pub kek-size : length (rowKey row) ≡ rowKeySize
   kek-size = rowFor-good t (identifierOf (keyPart p)) row (m .given .table-accepted) (m .matched) .key-size
@@ -47,25 +51,22 @@ module _ (t p out row : List ℕ) (m : KekMatched t p out row) where
   pub kek-bytes : Bytes t → Bytes (rowKey row)
   kek-bytes bytes-t = row-key-bytes t (identifierOf (keyPart p)) row bytes-t (m .matched)
 
-  abbrev pub unwrapping : ℕ × List ℕ
-  unwrapping = unwrapAnswer (rowKey row) (wrappedOf (keyPart p)) out
-
-  part-unwraps : partAnswer (rowNamed t (formatIn p) (keyPart p)) (algorithmIn p) (formatIn p) (keyPart p) out ≡ unwrapping
+  part-unwraps : partAnswer (rowNamed t (formatIn p) (keyPart p)) (algorithmIn p) (formatIn p) (keyPart p) out ≡ unwrapping p out row
   part-unwraps =
       rw (m .format)
       (wrapped-rest (rowFor t (identifierOf (keyPart p))) (algorithmIn p) (keyPart p) out row (m .matched) (eq-eqb (useOf row) kekUse (m .kek)) kek-size (m .given .key-fits))
 
   module _ (fields : List ℕ) where
-    load-unwraps : loadAnswer t p out fields ≡ (unwrapping, kept (unwrapping .0) (fieldsOf p) fields)
+    load-unwraps : loadAnswer t p out fields ≡ (unwrapping p out row, kept (unwrapping p out row .0) (fieldsOf p) fields)
     load-unwraps =
         load-by-the-part (tableOk t) (rowNamed t (formatIn p) (keyPart p)) p out fields (m .given .table-accepted) (m .given .readable)
-        (le-ltb (length out) rowKeySize (m .given .key-fits)) (unwrapping .0) (unwrapping .1) part-unwraps
+        (le-ltb (length out) rowKeySize (m .given .key-fits)) (unwrapping p out row .0) (unwrapping p out row .1) part-unwraps
 
     -- so either has its answer from the other
-    pub unwrapped-loads : (a : ℕ × List ℕ) → unwrapping ≡ a → loadAnswer t p out fields ≡ (a, kept (a .0) (fieldsOf p) fields)
+    pub unwrapped-loads : (a : ℕ × List ℕ) → unwrapping p out row ≡ a → loadAnswer t p out fields ≡ (a, kept (a .0) (fieldsOf p) fields)
     unwrapped-loads a e = load-unwraps ∙ ap (λ (x : ℕ × List ℕ). (x, kept (x .0) (fieldsOf p) fields)) e
 
-    pub loaded-unwraps : (a : ℕ × List ℕ) (after : List ℕ) → loadAnswer t p out fields ≡ (a, after) → unwrapping ≡ a
+    pub loaded-unwraps : (a : ℕ × List ℕ) (after : List ℕ) → loadAnswer t p out fields ≡ (a, after) → unwrapping p out row ≡ a
     loaded-unwraps a after e = ap (λ (x : (ℕ × List ℕ) × List ℕ). x .0) (sym load-unwraps ∙ e)
 
 -- the wrapped bytes of a page of bytes

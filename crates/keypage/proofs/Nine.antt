@@ -16,11 +16,11 @@ use Rattle.keytable.specs.Row.{rowKeySize}
 use Rattle.keytable.specs.Table.{tableOk}
 use Rattle.keytable.specs.Calls.{missing, useIn}
 use Rattle.keypage.specs.Page.{algorithmIn, formatIn, keyPart}
-use Rattle.keypage.specs.KeyPart.{wrappedFormat}
+use Rattle.keypage.specs.KeyPart.{plainFormat, referenceFormat, wrappedFormat}
 use Rattle.keypage.specs.Read.{broken, refused, long}
 use Rattle.keypage.specs.Load.{partTests, loadTests, loadNumber, loadRow, loadAnswer}
 use Rattle.keypage.specs.Laws.{Given, KekMatched}
-use Rattle.keypage.proofs.KeyPart.{Known, as-plain, as-reference, as-wrapped, known}
+use Rattle.keypage.proofs.KeyPart.{Known, known, third-format}
 use Rattle.keypage.proofs.Page.{passed-read, read-part}
 use Rattle.keypage.proofs.Load.{partNumber, rowGiven, numberIn, load-left}
 use Rattle.keypage.proofs.Matched.{matched-row}
@@ -37,9 +37,13 @@ not-nine false false e = omega arith
 
 -- only a wrapped key's part gives it
 nine-wrapped : (o : Option (List ℕ)) (algorithm f : ℕ) (s : List ℕ) → Known f → partNumber o algorithm f s ≡ 9 → f ≡ wrappedFormat
-nine-wrapped o algorithm f s (as-plain e) nine = let zero : _≡_ {A = ℕ} 0 9 = rw e at nine in absurd (omega arith)
-nine-wrapped o algorithm f s (as-reference e) nine = absurd (not-nine (missing o) (not (eqb (useIn o) algorithm)) (rw e at nine))
-nine-wrapped o algorithm f s (as-wrapped e) nine = e
+nine-wrapped o algorithm f s k nine = third-format f k plain reference
+  where
+    plain : f ≡ plainFormat → ⊥
+    plain e = let zero : _≡_ {A = ℕ} 0 9 = rw e at nine in omega arith
+
+    reference : f ≡ referenceFormat → ⊥
+    reference e = not-nine (missing o) (not (eqb (useIn o) algorithm)) (rw e at nine)
 
 module _ (t p out fields : List ℕ) (nine : loadAnswer t p out fields .0 .0 ≡ 9) where
   abbrev tests : Tests
