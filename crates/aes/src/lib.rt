@@ -3,7 +3,6 @@ mod backward;
 mod forward;
 mod schedule;
 
-use aes_field::inv_sbox_table;
 use aes_field::sbox_table;
 use aes_state::State;
 use aes_state::add_round_key;
@@ -57,9 +56,8 @@ pub fn encrypt(ks: RoundKeys, block: Block) -> Block
 pub fn decrypt(ks: RoundKeys, block: Block) -> Block
     ensures { λ r. ⌜ r ≡ invCipher ks block ⌝ }
 {
-    let t = inv_sbox_table();
     let s = add_round_key(load(block), ks[LAST_ROUND]);
-    store(all_inv_rounds(&t, ks, s))
+    store(all_inv_rounds(ks, s))
 }
 
 // Lent bytes.

@@ -77,6 +77,11 @@ module _ (a : ℕ) (h : a < 256) where
   unfolding invSbox
   invSbox-byte = inverse-byte (unaffine a) (unaffine-byte a h)
 
+  -- the inverse, as it is had from the S-box: one computed test over all bytes
+  pub unaffine-sbox : unaffine (sbox a) ≡ inverse a
+  unfolding sbox affine unaffine inverse times xtime
+  unaffine-sbox = agree-at (λ x. unaffine (sbox x)) inverse 256 tt a h
+
   pub invSbox-sbox : invSbox (sbox a) ≡ a
   unfolding sbox invSbox
   invSbox-sbox = ap inverse (unaffine-affine (inverse a) (inverse-byte a h)) ∙ inverse-inverse a h

@@ -1,12 +1,11 @@
-// Bytes as elements of GF(2^8), and the S-box and its inverse as constant tables (FIPS 197, sections 4, 5.1.1 and 5.3.2).
-mod inv_sbox;
+// Bytes as elements of GF(2^8), the S-box as a constant table, and its inverse worked out (FIPS 197, sections 4, 5.1.1 and 5.3.2).
+pub mod inv_sbox;
 mod sbox;
 
-use inv_sbox::INV_SBOX;
 use sbox::SBOX;
 ghost use mathlib.Core.Path.{_≡_};
 ghost use Rattle.aes_field.specs.Field.{xtime};
-ghost use Rattle.aes_field.specs.Tables.{sboxTable, invSboxTable};
+ghost use Rattle.aes_field.specs.Tables.{sboxTable};
 
 // For each byte, a byte.
 pub type ByteTable = [u8; 256];
@@ -22,10 +21,4 @@ pub fn sbox_table() -> ByteTable
     ensures { λ r. ⌜ r ≡ sboxTable ⌝ }
 {
     SBOX
-}
-
-pub fn inv_sbox_table() -> ByteTable
-    ensures { λ r. ⌜ r ≡ invSboxTable ⌝ }
-{
-    INV_SBOX
 }

@@ -1,13 +1,14 @@
--- Strings written in parts: a part of the output that was lent and came back, and a sum written byte by byte.
+-- Strings written in parts: a part of the output that was lent and came back; what is made of each byte, and a sum, written byte by byte.
 -- Assumes nothing.
 use mathlib.Core.Path.{_≡_, refl, sym, ap, ap₂, _∙_}
-use mathlib.Core.List.{List, [], _∷_, _++_, append-assoc, append-nil}
+use mathlib.Core.List.{List, [], _∷_, _++_, append-assoc, append-nil, map, map-append}
 use Prim.Native.Nat.{ℕ, zero, suc, _+_, _-_, _≤_, _<_}
 use native.Mathlib.Nat.{sub-zero, zero-sub, suc-sub-suc, le-of-suc-le-suc, not-suc-le-zero}
+use native.Mathlib.Numerals.{add-one}
 use native.Mathlib.Omega.{arith}
 use lib.Bits.{bitXor}
 use lib.ListN.{length, getD, set, take, drop, replicate, length-append, length-take, length-drop, drop-of-length-le}
-use lib.Seq.{take-all, take-at, drop-at, drop-drop}
+use lib.Seq.{take-all, take-at, take-suc, take-suc-set, drop-at, drop-drop}
 use Rattle.octets.specs.Xor.{xors}
 use Rattle.octets.specs.Blocks.{fill}
 use Rattle.octets.specs.Lent.{over}
@@ -53,6 +54,15 @@ block-put out b a {ys} size fits e =
     (drop-of-length-le (drop a out) {i = length out - a} (omega (arith, length-drop a out)))
     ∙ append-nil (b ++ drop (length b) (drop a out))
     ∙ ap (λ (n : ℕ). b ++ drop n (drop a out)) size)
+
+-- ---- what f makes of each byte of b, written byte by byte: the next one
+
+pub map-turn : (f : ℕ → ℕ) (b r : List ℕ) (i : ℕ) → i < length b → i < length r → take i r ≡ map f (take i b)
+    → take (i + 1) (set r i (f (getD b i 0))) ≡ map f (take (i + 1) b)
+map-turn f b r i hb hr done =
+    rw (add-one i)
+    (take-suc-set r i (f (getD b i 0)) hr ∙ ap (λ (l : List ℕ). l ++ f (getD b i 0) ∷ []) done
+    ∙ sym (ap (map f) (take-suc b i 0 hb) ∙ map-append f (take i b) (getD b i 0 ∷ [])))
 
 -- ---- a sum written byte by byte over zeros: the next byte, and after the last; and over an output that is as long
 

@@ -1,12 +1,9 @@
--- `aes::decrypt` meets its contract: the table follows its rule, and by what each call ensures.
+-- `aes::decrypt` meets its contract: by what each call ensures.
 -- Assumes nothing.
 use borrow.Author.Needs.{needs}
 use Rattle.aes.proofs.Rounds.{unciphered}
 use Rattle.aes.proofs.decrypt.Statement.{statement}
 use Rattle.aes.proofs.decrypt.Tie as tie
-
-inv-sbox-table-requires : tie.Need-inv-sbox-table-requires
-inv-sbox-table-requires c κs = search needs
 
 load-requires : tie.Need-load-requires
 load-requires c κs = search needs
@@ -25,14 +22,13 @@ store-requires c κs = search needs
 
 returns : tie.Need-returns
 returns c =
-    let start = c .before .before .before in
+    let start = c .before .before in
     unciphered _ _ _ _ _ _ (start .before .before .load .ensures) (start .add-round-key .ensures) (c .before .all-inv-rounds .ensures) (c .store .ensures)
 
 pub decrypt-spec : {M : Type 1} → statement M
 decrypt-spec =
     tie.close
     (tie.spec
-    inv-sbox-table-requires
     load-requires
     array-copy-out-add-round-key
     add-round-key-requires

@@ -11,10 +11,10 @@ use Rattle.aes.proofs.backward.all_inv_rounds.Statement.{statement}
 use Rattle.aes.proofs.backward.all_inv_rounds.Tie as tie
 
 abbrev Inv-loop : tie.InvT-loop
-Inv-loop t ks x₀ i₀ x i = (i ≤ 13) × (invRounds ks i x ≡ invRounds ks 13 x₀)
+Inv-loop ks x₀ i₀ x i = (i ≤ 13) × (invRounds ks i x ≡ invRounds ks 13 x₀)
 
 abbrev μ-loop : tie.MeasureT-loop
-μ-loop t ks x₀ i₀ x i = i
+μ-loop ks x₀ i₀ x i = i
 
 loop-holds : tie.Need-loop-holds Inv-loop μ-loop
 loop-holds c = (lit≤ tt, refl)
