@@ -1,4 +1,4 @@
-/* BearSSL's constant-time code for 64-bit machines: AES by bit slices, GHASH by integer products. It works in place. */
+/* BearSSL's constant-time code for 64-bit machines: AES by bit slices, GHASH by integer products. It works in place, and has no key wrap. */
 #include <bearssl.h>
 #include <string.h>
 #include "peers.h"
@@ -31,4 +31,4 @@ static void run(int mode, struct message *m, int seal, uint8_t *tag)
 
 #include "by_tag.h"
 
-const struct peer bearssl = { "BearSSL", seal, open };
+const struct peer bearssl = { "BearSSL", seal, open, NULL };

@@ -15,13 +15,19 @@ static void ready(void)
     gcry_control(GCRYCTL_INITIALIZATION_FINISHED, 0);
 }
 
-static gcry_cipher_hd_t begin(int mode, struct message *m)
+static gcry_cipher_hd_t keyed(int mode, const uint8_t *key)
 {
     gcry_cipher_hd_t h;
     ready();
-    if (gcry_cipher_open(&h, GCRY_CIPHER_AES256, mode == GCM ? GCRY_CIPHER_MODE_GCM : GCRY_CIPHER_MODE_CCM, 0))
+    if (gcry_cipher_open(&h, GCRY_CIPHER_AES256, mode, 0))
         abort();
-    gcry_cipher_setkey(h, m->key, 32);
+    gcry_cipher_setkey(h, key, 32);
+    return h;
+}
+
+static gcry_cipher_hd_t begin(int mode, struct message *m)
+{
+    gcry_cipher_hd_t h = keyed(mode == GCM ? GCRY_CIPHER_MODE_GCM : GCRY_CIPHER_MODE_CCM, m->key);
     gcry_cipher_setiv(h, m->iv, 12);
     if (mode == CCM) {
         uint64_t lengths[3] = { m->len, m->aad_len, 16 };
@@ -48,4 +54,12 @@ static int open(int mode, struct message *m)
     return right;
 }
 
-const struct peer gcrypt = { "libgcrypt", seal, open };
+static int unwrap(const uint8_t *kek, const uint8_t *wrapped, uint8_t *out)
+{
+    gcry_cipher_hd_t h = keyed(GCRY_CIPHER_MODE_AESWRAP, kek);
+    int right = gcry_cipher_decrypt(h, out, 32, wrapped, 40) == 0;
+    gcry_cipher_close(h);
+    return right;
+}
+
+const struct peer gcrypt = { "libgcrypt", seal, open, unwrap };

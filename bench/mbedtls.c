@@ -1,8 +1,9 @@
-/* mbedTLS asks this function whether it may use AES instructions: it may not. */
+/* Debian builds mbedTLS without its key wrap (MBEDTLS_NIST_KW_C), so that it unwraps nothing here. */
 #include <mbedtls/ccm.h>
 #include <mbedtls/gcm.h>
 #include "peers.h"
 
+/* mbedTLS asks this function whether it may use AES instructions: it may not. */
 int mbedtls_aesni_has_support(unsigned int what)
 {
     (void)what;
@@ -40,4 +41,4 @@ static int open(int mode, struct message *m)
     return run(mode, m, 0);
 }
 
-const struct peer mbedtls = { "mbedTLS", seal, open };
+const struct peer mbedtls = { "mbedTLS", seal, open, NULL };

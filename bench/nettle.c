@@ -1,5 +1,6 @@
 #include <nettle/ccm.h>
 #include <nettle/gcm.h>
+#include <nettle/nist-keywrap.h>
 #include <string.h>
 #include "peers.h"
 
@@ -24,4 +25,12 @@ static void run(int mode, struct message *m, int seal, uint8_t *tag)
 
 #include "by_tag.h"
 
-const struct peer nettle = { "nettle", seal, open };
+static int unwrap(const uint8_t *kek, const uint8_t *wrapped, uint8_t *out)
+{
+    static const uint8_t start[8] = { 0xa6, 0xa6, 0xa6, 0xa6, 0xa6, 0xa6, 0xa6, 0xa6 };
+    struct aes256_ctx c;
+    aes256_set_decrypt_key(&c, kek);
+    return aes256_keyunwrap(&c, start, 32, out, wrapped);
+}
+
+const struct peer nettle = { "nettle", seal, open, unwrap };

@@ -1,4 +1,7 @@
-/* A library under measure: seals and opens one message, with the key set up anew each time, as a record has it. */
+/*
+ * A library under measure: seals and opens one message and, where it can, unwraps a key (AES Key Wrap). The key is set up
+ * anew each time, as the unit does it for a record and for a wrapped key.
+ */
 #ifndef PEERS_H
 #define PEERS_H
 
@@ -25,6 +28,8 @@ struct peer {
     /* fills out and tag; and the way back, 1 where the tag is right */
     void (*seal)(int mode, struct message *m);
     int (*open)(int mode, struct message *m);
+    /* fills the 32 bytes of out from 40 wrapped ones, 1 where the start value is right; NULL in a library that has none */
+    int (*unwrap)(const uint8_t *kek, const uint8_t *wrapped, uint8_t *out);
 };
 
 extern const struct peer unit, openssl, nettle, mbedtls, gcrypt, bearssl;

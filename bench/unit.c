@@ -1,6 +1,7 @@
 /*
  * The unit itself, record by record: a key table of one row for each mode, a name of 32 bytes and no associated data of the caller's. So the
  * mode's associated data is the record's first 56 bytes, which peers are given; a record's ciphertext begins at byte 68, and its tag follows it.
+ * A key is unwrapped by the call that takes the key-encrypting key itself, without a table.
  */
 #include <stdlib.h>
 #include <string.h>
@@ -44,4 +45,9 @@ static int open(int mode, struct message *m)
     return spadeswirl_open(table, sizeof table, m->text - FRONT, FRONT + m->len + SPADESWIRL_TAG_BYTES, NULL, 0, m->out, m->len, &n) == 0 && n == m->len;
 }
 
-const struct peer unit = { "spadeswirl", seal, open };
+static int unwrap(const uint8_t *kek, const uint8_t *wrapped, uint8_t *out)
+{
+    return spadeswirl_unwrap(kek, SPADESWIRL_KEY_BYTES, wrapped, SPADESWIRL_WRAPPED_BYTES, out, SPADESWIRL_KEY_BYTES) == 0;
+}
+
+const struct peer unit = { "spadeswirl", seal, open, unwrap };
