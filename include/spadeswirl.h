@@ -194,6 +194,8 @@ uint8_t spadeswirl_wrap(const uint8_t *kek, size_t kek_len,
 /*
  * Unwraps a key into the first SPADESWIRL_KEY_BYTES of the output, once its
  * start value is found right. Numbers: 0; 2 for another length of KEK; 5; 8; 9.
+ * A boot part that calls nothing else may link libspadeswirl_boot.a, which has
+ * this call alone (`rt staticlib spadeswirl_boot`).
  */
 uint8_t spadeswirl_unwrap(const uint8_t *kek, size_t kek_len,
                           const uint8_t *wrapped, size_t wrapped_len,

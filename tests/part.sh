@@ -135,19 +135,20 @@ flags=(-std=gnu99 -O2 -Wall -Wextra -Werror)
 # x86 PROGRAM WORD ..: runs a program for x86-64.
 x86() { ${run:+"$run"} "$@"; }
 
-# The static library, proved and built.
-library() { must "the static library was not built" rt staticlib spadeswirl; }
+# library CRATE: its static library, proved and built.
+library() { must "the static library of $1 was not built" rt staticlib "$1"; }
 
-# build NAME: a C program, into the folder. One of tests/c is over the static library, for x86-64; one of tests/second is on OpenSSL's
-# libcrypto, for this machine. A writer of lines runs for less time than more optimizing takes.
+# build NAME: a C program, into the folder. One of tests/c is over the static library, for x86-64, and boot.c over that of the boot part, which is
+# built for it; one of tests/second is on OpenSSL's libcrypto, for this machine. A writer of lines runs for less time than more optimizing takes.
 build() {
-    local at how=()
+    local at how=() crate=spadeswirl
     for at in tests/c tests/second tests/second/lines; do
         [ ! -f "$at/$1.c" ] || break
     done
     if [ "$at" = tests/c ]; then
+        [ "$1" != boot ] || { crate=spadeswirl_boot; library $crate; }
         # shellcheck disable=SC2086
-        must "$at/$1.c was not built" $cc "${flags[@]}" -Iinclude -o "$folder/$1" "$at/$1.c" target/staticlib/libspadeswirl.a
+        must "$at/$1.c was not built" $cc "${flags[@]}" -Iinclude -o "$folder/$1" "$at/$1.c" "target/staticlib/lib$crate.a"
         return
     fi
     [ "$at" = tests/second ] || how=(-Og)
@@ -160,7 +161,7 @@ programs() {
     local name
     [ -z "$1" ] || { folder=$1; return 0; }
     shift
-    library
+    library spadeswirl
     for name; do
         build "$name"
     done
