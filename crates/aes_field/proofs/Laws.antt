@@ -5,7 +5,7 @@ use Prim.Native.Nat.{ℕ}
 use native.Mathlib.Omega.{arith}
 use borrow.Author.Tests.{ne-eqb}
 use Rattle.aes_field.specs.Field.{xtime, times, inverse}
-use Rattle.aes_field.specs.Laws.{InverseIs, InverseOfZero, UnaffineUndoes, AffineUndoes, InvSboxUndoes, SboxUndoes, SboxBytes, InvSboxBytes, InvMixUndoes, MixUndoes}
+use Rattle.aes_field.specs.Laws.{InverseIs, InverseOfZero, UnaffineUndoes, AffineUndoes, InvSboxUndoes, SboxUndoes, InverseBySbox, SboxBytes, InvSboxBytes, InvMixUndoes, MixUndoes}
 use Rattle.aes_field.proofs.Inverse as inverses
 use Rattle.aes_field.proofs.Unmix as matrices
 
@@ -27,6 +27,9 @@ invSbox-sbox = inverses.invSbox-sbox
 
 pub sbox-invSbox : SboxUndoes
 sbox-invSbox = inverses.sbox-invSbox
+
+pub unaffine-sbox : InverseBySbox
+unaffine-sbox = inverses.unaffine-sbox
 
 pub sbox-byte : SboxBytes
 sbox-byte = inverses.sbox-byte

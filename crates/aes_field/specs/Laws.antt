@@ -34,6 +34,10 @@ InvSboxUndoes = UndoesOnBytes invSbox sbox
 abbrev pub SboxUndoes : Type 0
 SboxUndoes = UndoesOnBytes sbox invSbox
 
+-- the inverse in the field, as it is had from the S-box
+abbrev pub InverseBySbox : Type 0
+InverseBySbox = (a : ℕ) → a < 256 → unaffine (sbox a) ≡ inverse a
+
 abbrev pub SboxBytes : Type 0
 SboxBytes = MakesBytes sbox
 

@@ -1,9 +1,8 @@
 -- `aes_field::inv_sbox::inverse` meets its contract: the table is the S-box's, and undoing the affine map there gives the inverse.
 -- Assumes nothing.
 use borrow.Author.Needs.{needs}
-use mathlib.Core.Path.{_∙_, ap}
 use native.Mathlib.Omega.{arith}
-use Rattle.aes_field.specs.Field.{sbox, unaffine}
+use Rattle.aes_field.specs.Field.{sbox}
 use Rattle.aes_field.proofs.Tables.{tableOf-at}
 use Rattle.aes_field.proofs.Inverse.{unaffine-sbox}
 use Rattle.aes_field.proofs.inv_sbox.inverse.Statement.{statement}
