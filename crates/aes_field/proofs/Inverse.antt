@@ -83,8 +83,8 @@ module _ (a : ℕ) (h : a < 256) where
   unaffine-sbox = agree-at (λ x. unaffine (sbox x)) inverse 256 tt a h
 
   pub invSbox-sbox : invSbox (sbox a) ≡ a
-  unfolding sbox invSbox
-  invSbox-sbox = ap inverse (unaffine-affine (inverse a) (inverse-byte a h)) ∙ inverse-inverse a h
+  unfolding invSbox
+  invSbox-sbox = ap inverse unaffine-sbox ∙ inverse-inverse a h
 
   pub sbox-invSbox : sbox (invSbox a) ≡ a
   unfolding sbox invSbox

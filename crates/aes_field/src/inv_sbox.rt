@@ -9,7 +9,8 @@ ghost use Rattle.aes_field.specs.Tables.{sboxTable};
 
 const BLOCK_SIZE: usize = 16;
 
-// 5.3.2: the inverse of the affine map. Bit i is the sum of the bits i + 2, i + 5 and i + 7, counted modulo 8, and of the constant's.
+// 5.3.2: the inverse of the affine map. Bit i is the sum of the bits i + 2, i + 5 and i + 7, counted modulo 8, and of the constant's. The byte
+// is taken twice over, so that the places come round.
 fn unaffine(a: u8) -> u8
     ensures { λ r. ⌜ r ≡ unaffine a ⌝ }
 {
@@ -25,7 +26,7 @@ fn inverse(t: &ByteTable, a: u8) -> u8
     unaffine(t[a as usize])
 }
 
-// 5.3.2: of each byte of a block.
+// 5.3.2: the inverse S-box of each byte of a block: the affine map undone, and then the inverse.
 pub fn inv_sub(b: Block) -> Block
     ensures { λ r. ⌜ r ≡ map invSbox b ⌝ }
 {
