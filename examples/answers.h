@@ -24,8 +24,8 @@ static inline struct bytes text(const char *letters)
 
 static const char *const meanings[] = {
     "done", "the key table breaks its layout", "a layout is broken, or a length is wrong", "not permitted, or not known",
-    "a maximum is passed", "the output is shorter than the result", "no row of that name", "the row's use is another",
-    "a wrapped key is not 40 bytes", "the tag or the wrapped key is wrong", "the IV session is spent",
+    "a maximum is passed", "the output is shorter than the result", "no row of that type and name",
+    "the row's use is another", "a wrapped key is not 40 bytes", "the tag or the wrapped key is wrong", "the IV session is spent",
 };
 
 /* The output that every call is lent: full of A5h before each. */
@@ -68,7 +68,7 @@ static inline void show(const char *what, struct bytes b)
 
 /* A key table's header: format 1, the count of rows, the first row's place, the length of a row. */
 #define TABLE(rows) SPADESWIRL_TABLE_BYTES(rows)
-enum { CCM = SPADESWIRL_CCM, GCM = SPADESWIRL_GCM, KEK = SPADESWIRL_KEK };
+enum { CCM = SPADESWIRL_CCM, GCM = SPADESWIRL_GCM };
 
 static inline void begin_table(uint8_t *table, uint8_t rows)
 {
@@ -76,7 +76,7 @@ static inline void begin_table(uint8_t *table, uint8_t rows)
     table[1] = 1, table[3] = rows, table[5] = SPADESWIRL_TABLE_HEADER_BYTES, table[7] = SPADESWIRL_ROW_BYTES;
 }
 
-/* A row: the name's length, its use, the name, and a key of 32 bytes that count up from `first`. */
+/* A data row: the name's length, its use, the name, and a key of 32 bytes that count up from `first`. */
 static inline uint8_t *set_row(uint8_t *table, unsigned i, const char *name, uint8_t use, uint8_t first)
 {
     uint8_t *row = table + TABLE(i);
@@ -84,6 +84,14 @@ static inline uint8_t *set_row(uint8_t *table, unsigned i, const char *name, uin
     memcpy(row + 8, name, row[0]);
     for (unsigned k = 0; k < SPADESWIRL_KEY_BYTES; k++)
         row[40 + k] = (uint8_t)(first + k);
+    return row;
+}
+
+/* The row of a key-encrypting key, with the KEK type of the pages that name it. */
+static inline uint8_t *set_kek(uint8_t *table, unsigned i, const char *name, uint8_t type, uint8_t first)
+{
+    uint8_t *row = set_row(table, i, name, SPADESWIRL_KEK, first);
+    row[3] = type;
     return row;
 }
 

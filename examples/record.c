@@ -57,7 +57,7 @@ static void sealing_refused(struct sealing right, size_t size)
     s = right, s.name = text("TAPE10");
     expect("by TAPE10, which no row has", SPADESWIRL_NO_ROW, seal(s, sizeof out));
     s = right, s.name = text("KEK1");
-    expect("by KEK1, whose row is for keys", SPADESWIRL_OTHER_USE, seal(s, sizeof out));
+    expect("by KEK1, which only a key-encrypting key has", SPADESWIRL_NO_ROW, seal(s, sizeof out));
     s.table.at = broken, s.iv.len = SPADESWIRL_IV_BYTES - 1;
     expect("all of this at once: the lowest number is given", SPADESWIRL_BAD_TABLE, seal(s, 0));
 }
@@ -126,7 +126,7 @@ int main(void)
     begin_table(table, 3);
     set_row(table, 0, "TAPE1", GCM, 0x00);
     set_row(table, 1, "TAPE2", CCM, 0x20);
-    set_row(table, 2, "KEK1", KEK, 0x40);
+    set_kek(table, 2, "KEK1", SPADESWIRL_KEK_DS_SAI, 0x40);
     show("the key table", s.table);
     show("the name", s.name);
     show("the IV", s.iv);

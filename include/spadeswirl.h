@@ -58,8 +58,8 @@ enum {
     SPADESWIRL_NOT_PERMITTED = 3,      /* a mode, field, KEK type or format that is not known */
     SPADESWIRL_OVER_MAXIMUM = 4,
     SPADESWIRL_SHORT_OUTPUT = 5,
-    SPADESWIRL_NO_ROW = 6,             /* no row has exactly that name */
-    SPADESWIRL_OTHER_USE = 7,          /* the row is there, and is for something else */
+    SPADESWIRL_NO_ROW = 6,             /* no row has that type and exactly that name */
+    SPADESWIRL_OTHER_USE = 7,          /* the row is there, and is for another mode */
     SPADESWIRL_BAD_WRAPPED_LENGTH = 8,
     SPADESWIRL_NOT_AUTHENTIC = 9,      /* the tag, or the start value of a wrapped key, is wrong */
     SPADESWIRL_SESSION_SPENT = 10
@@ -107,11 +107,16 @@ enum {
 #define SPADESWIRL_TABLE_MAX SPADESWIRL_TABLE_BYTES(SPADESWIRL_ROWS_MAX)
 #define SPADESWIRL_RECORD_MAX SPADESWIRL_RECORD_BYTES(SPADESWIRL_NAME_MAX, SPADESWIRL_TEXT_MAX)
 
-/* The KEY FORMAT of a page, and the KEK type of a wrapped key. */
+/* The KEY FORMAT of a page. */
 enum {
     SPADESWIRL_FORMAT_KEY = 0,
     SPADESWIRL_FORMAT_REFERENCE = 1,
-    SPADESWIRL_FORMAT_WRAPPED = 4,
+    SPADESWIRL_FORMAT_WRAPPED = 4
+};
+
+/* The type of a row: of a key-encrypting key the KEK type of the pages that name it, of any other row DATA. */
+enum {
+    SPADESWIRL_TYPE_DATA = 0,
     SPADESWIRL_KEK_DS_SAI = 1,         /* the identifier is a DS_SAI */
     SPADESWIRL_KEK_ASSIGNED = 2        /* the device server assigned it */
 };
@@ -208,19 +213,21 @@ uint8_t spadeswirl_unwrap(const uint8_t *kek, size_t kek_len,
 uint8_t spadeswirl_table_check(const uint8_t *table, size_t table_len);
 
 /*
- * Stores the use of the row with exactly that name. Numbers: 0; 1; 2 for an
- * empty name; 4 for a long one; 6. The place of a row is never answered, since
- * other rows may move it.
+ * Stores the use of the row with that type and exactly that name. Rows of one
+ * name and of different types are different rows. Numbers: 0; 1; 2 for an empty
+ * name; 3 for a type over 2; 4 for a long name; 6. The place of a row is never
+ * answered, since other rows may move it.
  */
-uint8_t spadeswirl_find(const uint8_t *table, size_t table_len,
+uint8_t spadeswirl_find(const uint8_t *table, size_t table_len, uint16_t type,
                         const uint8_t *name, size_t name_len, uint64_t *use);
 
 /*
- * Seals a text into a record by the row of exactly that name, whose use is the
- * mode: fills the first SPADESWIRL_RECORD_BYTES(name_len, plain_len) bytes of
- * the output. A fresh IV is the caller's to see to, as above, or a session's
- * (below). Numbers: 0; 1; 2 for an empty name or another length
- * of IV; 4; 5; 6; 7 for the row of a key-encrypting key.
+ * Seals a text into a record by the row of type SPADESWIRL_TYPE_DATA and
+ * exactly that name, whose use is the mode: fills the first
+ * SPADESWIRL_RECORD_BYTES(name_len, plain_len) bytes of the output. A fresh IV
+ * is the caller's to see to, as above, or a session's (below). Numbers: 0; 1; 2
+ * for an empty name or another length of IV; 4; 5; 6, also where only
+ * key-encrypting keys have that name.
  */
 uint8_t spadeswirl_seal(const uint8_t *table, size_t table_len,
                         const uint8_t *name, size_t name_len,
@@ -262,7 +269,7 @@ uint8_t spadeswirl_session_issue(struct spadeswirl_session *session,
  * Seals a text with the next IV of a session, which is written nowhere but in
  * the record: what spadeswirl_seal does with that IV. The session advances
  * exactly when the answer is 0, so that no IV is used twice by mistake.
- * Numbers: 0; 1; 2 for an empty name; 4, 5, 6, 7 as for spadeswirl_seal; 10.
+ * Numbers: 0; 1; 2 for an empty name; 4, 5, 6 as for spadeswirl_seal; 10.
  */
 uint8_t spadeswirl_seal_next(struct spadeswirl_session *session,
                              const uint8_t *table, size_t table_len,
@@ -272,10 +279,11 @@ uint8_t spadeswirl_seal_next(struct spadeswirl_session *session,
                              uint8_t *out, size_t out_len);
 
 /*
- * Opens a record by the row of its whole name: fills the first *n bytes of the
- * output and stores n; no byte is written before the tag is found right.
- * Numbers: 0; 1; 2 and 3 as for spadeswirl_record_check; 4 for the record or
- * the associated data; 5; 6; 7 for a row of another use than its mode; 9.
+ * Opens a record by the row of type SPADESWIRL_TYPE_DATA and its whole name:
+ * fills the first *n bytes of the output and stores n; no byte is written before
+ * the tag is found right. Numbers: 0; 1; 2 and 3 as for
+ * spadeswirl_record_check; 4 for the record or the associated data; 5; 6; 7 for
+ * a row of another use than its mode; 9.
  */
 uint8_t spadeswirl_open(const uint8_t *table, size_t table_len,
                         const uint8_t *record, size_t record_len,
@@ -317,11 +325,13 @@ uint8_t spadeswirl_page_read(const uint8_t *page, size_t page_len,
                              uint64_t fields[SPADESWIRL_FIELDS]);
 
 /*
- * Loads the key of a page: its own, that of the row of a reference, or a
- * wrapped one, by the row of its identifier. Fills the first
- * SPADESWIRL_KEY_BYTES of the output and stores the fields. Numbers: 0; 1, for
- * every format; 2, 3 and 4 as for spadeswirl_page_read; 5; 6; 7; 8; 9, where no
- * key wraps to a wrapped key's bytes under that row (docs/WHY_NINE.md).
+ * Loads the key of a page: its own, that of the row of a reference (of type
+ * SPADESWIRL_TYPE_DATA), or a wrapped one, by the row of its KEK type and
+ * identifier. Fills the first SPADESWIRL_KEY_BYTES of the output and stores the
+ * fields. Numbers: 0; 1, for every format; 2, 3 and 4 as for
+ * spadeswirl_page_read; 5; 6; 7 for a reference's row of another use than
+ * ALGORITHM INDEX; 8; 9, where no key wraps to a wrapped key's bytes under that
+ * row (docs/WHY_NINE.md).
  */
 uint8_t spadeswirl_page_load(const uint8_t *table, size_t table_len,
                              const uint8_t *page, size_t page_len,

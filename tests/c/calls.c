@@ -14,6 +14,15 @@ static uint8_t thousand(uint8_t (*once)(void))
 
 static uint8_t aes256_encrypt_1000(void) { return thousand(aes256_encrypt); }
 static uint8_t aes256_decrypt_1000(void) { return thousand(aes256_decrypt); }
+
+/* A type is lent in 16 bits: a line with a wider one is no call. */
+static uint16_t sixteen_bits(uint64_t n)
+{
+    if (n > UINT16_MAX)
+        give_up("not a call", "a number has more than 16 bits");
+    return (uint16_t)n;
+}
+
 static uint8_t ccm_encrypt(void) { return spadeswirl_ccm_encrypt(S(0), S(1), S(2), S(3), OUT); }
 static uint8_t ccm_decrypt(void) { return spadeswirl_ccm_decrypt(S(0), S(1), S(2), S(3), S(4), OUT); }
 static uint8_t gcm_encrypt(void) { return spadeswirl_gcm_encrypt(S(0), S(1), S(2), S(3), OUT); }
@@ -21,7 +30,7 @@ static uint8_t gcm_decrypt(void) { return spadeswirl_gcm_decrypt(S(0), S(1), S(2
 static uint8_t wrap(void) { return spadeswirl_wrap(S(0), S(1), OUT); }
 static uint8_t unwrap(void) { return spadeswirl_unwrap(S(0), S(1), OUT); }
 static uint8_t table_check(void) { return spadeswirl_table_check(S(0)); }
-static uint8_t find(void) { return spadeswirl_find(S(0), S(1), STORED); }
+static uint8_t find(void) { return spadeswirl_find(S(0), sixteen_bits(numbers[0]), S(1), STORED); }
 static uint8_t seal(void) { return spadeswirl_seal(S(0), S(1), S(2), S(3), S(4), OUT); }
 static uint8_t open_record(void) { return spadeswirl_open(S(0), S(1), S(2), OUT, STORED); }
 static uint8_t record_check(void) { return spadeswirl_record_check(S(0)); }
@@ -41,7 +50,7 @@ static const struct call calls[] = {
     { "ccm_encrypt", 4, 0, OUTPUT, 0, ccm_encrypt }, { "ccm_decrypt", 5, 0, OUTPUT, 0, ccm_decrypt },
     { "gcm_encrypt", 4, 0, OUTPUT, 0, gcm_encrypt }, { "gcm_decrypt", 5, 0, OUTPUT, 0, gcm_decrypt },
     { "wrap", 2, 0, OUTPUT, 0, wrap }, { "unwrap", 2, 0, OUTPUT, 0, unwrap },
-    { "table_check", 1, 0, NOTHING, 0, table_check }, { "find", 2, 0, NOTHING, 1, find },
+    { "table_check", 1, 0, NOTHING, 0, table_check }, { "find", 2, 1, NOTHING, 1, find },
     { "seal", 5, 0, OUTPUT, 0, seal }, { "open", 3, 0, OUTPUT, 1, open_record },
     { "record_check", 1, 0, NOTHING, 0, record_check },
     { "list_check", 1, 2, NOTHING, 1, list_check }, { "list_step", 1, 3, NOTHING, 2, list_step },

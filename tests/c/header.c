@@ -22,7 +22,7 @@ static void says(const char *what, int holds)
     printf("%s %s\n", holds ? "ok" : "wrong", what);
 }
 
-/* Rows with names of NAME bytes: of uses CCM, GCM and KEK in turn, each name its place and then zeros. */
+/* Rows with names of NAME bytes, each its place and then zeros: of uses CCM, GCM and KEK in turn, and of KEKs each type. */
 static size_t rows(unsigned count)
 {
     memset(table, 0, sizeof table);
@@ -30,6 +30,7 @@ static size_t rows(unsigned count)
     for (unsigned i = 0; i < count; i++) {
         uint8_t *row = table + SPADESWIRL_TABLE_BYTES(i);
         row[0] = NAME, row[1] = (uint8_t)(1 + i % 3), row[8] = (uint8_t)i;
+        row[3] = i % 3 < 2 ? SPADESWIRL_TYPE_DATA : i % 6 < 3 ? SPADESWIRL_KEK_DS_SAI : SPADESWIRL_KEK_ASSIGNED;
     }
     return SPADESWIRL_TABLE_BYTES(count);
 }
@@ -40,10 +41,30 @@ static uint8_t seal(uint8_t row, size_t aad_len, size_t n, size_t room)
     return spadeswirl_seal(table, rows(3), LENT(name), zeros, IV, zeros, aad_len, zeros, n, out, room);
 }
 
-static uint8_t use_of(uint8_t row, uint64_t *use)
+static uint8_t use_of(uint8_t row, uint16_t type, uint64_t *use)
 {
     uint8_t name[NAME] = { row };
-    return spadeswirl_find(table, rows(4), LENT(name), use);
+    return spadeswirl_find(table, rows(6), type, LENT(name), use);
+}
+
+/* Whether the row is found by that type, with that use, and by no other type. */
+static int only(uint8_t row, uint16_t type, uint64_t wanted)
+{
+    int right = 1;
+    for (uint16_t other = SPADESWIRL_TYPE_DATA; other <= SPADESWIRL_KEK_ASSIGNED; other++) {
+        uint64_t use = 0;
+        uint8_t number = use_of(row, other, &use);
+        right = right && number == (other == type ? SPADESWIRL_DONE : SPADESWIRL_NO_ROW) && use == (other == type ? wanted : 0);
+    }
+    return right;
+}
+
+/* What was sealed last, by row 0 and of no text, is opened with that use of the row. */
+static uint8_t open_by_use(uint8_t use)
+{
+    uint64_t n;
+    table[SPADESWIRL_TABLE_BYTES(0) + 1] = use;
+    return spadeswirl_open(table, SPADESWIRL_TABLE_BYTES(3), out, SPADESWIRL_RECORD_BYTES(NAME, 0), NULL, 0, NULL, 0, &n);
 }
 
 static uint8_t gcm(size_t iv_len, size_t aad_len, size_t n, size_t room)
@@ -119,15 +140,19 @@ static void tables(void)
     says("ROWS_MAX, TABLE_MAX", rows(SPADESWIRL_ROWS_MAX) == SPADESWIRL_TABLE_MAX
          && spadeswirl_table_check(table, SPADESWIRL_TABLE_MAX) == SPADESWIRL_DONE);
     says("BAD_TABLE", spadeswirl_table_check(table, rows(SPADESWIRL_ROWS_MAX + 1)) == SPADESWIRL_BAD_TABLE);
-    says("CCM", use_of(0, &use) == SPADESWIRL_DONE && use == SPADESWIRL_CCM);
-    says("GCM", use_of(1, &use) == SPADESWIRL_DONE && use == SPADESWIRL_GCM);
-    says("KEK", use_of(2, &use) == SPADESWIRL_DONE && use == SPADESWIRL_KEK);
-    says("NO_ROW", use_of(9, &use) == SPADESWIRL_NO_ROW);
-    says("NAME_MAX", spadeswirl_find(table, rows(1), zeros, NAME, &use) == SPADESWIRL_DONE
-         && spadeswirl_find(table, rows(1), zeros, NAME + 1, &use) == SPADESWIRL_OVER_MAXIMUM);
+    says("CCM, TYPE_DATA", only(0, SPADESWIRL_TYPE_DATA, SPADESWIRL_CCM));
+    says("GCM, TYPE_DATA", only(1, SPADESWIRL_TYPE_DATA, SPADESWIRL_GCM));
+    says("KEK, KEK_DS_SAI of a row", only(2, SPADESWIRL_KEK_DS_SAI, SPADESWIRL_KEK));
+    says("KEK, KEK_ASSIGNED of a row", only(5, SPADESWIRL_KEK_ASSIGNED, SPADESWIRL_KEK));
+    says("NO_ROW", use_of(9, SPADESWIRL_TYPE_DATA, &use) == SPADESWIRL_NO_ROW && seal(2, 0, 0, sizeof out) == SPADESWIRL_NO_ROW);
+    says("NOT_PERMITTED of a type", use_of(0, SPADESWIRL_KEK_ASSIGNED + 1, &use) == SPADESWIRL_NOT_PERMITTED
+         && use_of(0, UINT16_MAX, &use) == SPADESWIRL_NOT_PERMITTED);
+    says("NAME_MAX", spadeswirl_find(table, rows(1), SPADESWIRL_TYPE_DATA, zeros, NAME, &use) == SPADESWIRL_DONE
+         && spadeswirl_find(table, rows(1), SPADESWIRL_TYPE_DATA, zeros, NAME + 1, &use) == SPADESWIRL_OVER_MAXIMUM);
     says("AAD_MAX", seal(0, SPADESWIRL_AAD_MAX, 0, 0) == SPADESWIRL_SHORT_OUTPUT
          && seal(0, SPADESWIRL_AAD_MAX + 1, 0, 0) == SPADESWIRL_OVER_MAXIMUM);
-    says("OTHER_USE", seal(2, 0, 0, sizeof out) == SPADESWIRL_OTHER_USE);
+    says("OTHER_USE", seal(0, 0, 0, sizeof out) == SPADESWIRL_DONE && open_by_use(SPADESWIRL_CCM) == SPADESWIRL_DONE
+         && open_by_use(SPADESWIRL_GCM) == SPADESWIRL_OTHER_USE);
     says("RECORD_BYTES", seal(1, 0, 5, SPADESWIRL_RECORD_BYTES(NAME, 5) - 1) == SPADESWIRL_SHORT_OUTPUT
          && seal(1, 0, 5, SPADESWIRL_RECORD_BYTES(NAME, 5)) == SPADESWIRL_DONE
          && spadeswirl_record_check(out, SPADESWIRL_RECORD_BYTES(NAME, 5)) == SPADESWIRL_DONE);

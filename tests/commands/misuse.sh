@@ -60,7 +60,7 @@ misuse "no such data" seal $table $gcm $iv "$room/none"
 misuse "no such label" label "$room/none"
 misuse "no such page" descriptors "$room/none"
 misuse "no such page" list-page "$room/none"
-misuse "a file with a number for its name" label "6: no row of that name"
+misuse "a file with a number for its name" label "6: no row of that type and name"
 misuse "an empty file name" label ""
 misuse "a file name of 5,000 bytes" label "$(printf '%05000d' 0)"
 for words in "check-table $room" "open $table $room" "label $room" "descriptors $room" "list-page $room" "seal $table $gcm $iv $plain $room"; do

@@ -34,7 +34,7 @@ for n in 0 1 15 16 17 31 33 255 4096 65537 1048575 1048576; do
         same "$n bytes there and back by $name" "$room/wrote" "$room/plain"
     done
 done
-printf '\n\n6: no row of that name\n\0\0\n-\n' >"$room/lines"
+printf '\n\n6: no row of that type and name\n\0\0\n-\n' >"$room/lines"
 gives "lines and zero bytes" 0 seal $table $gcm $iv "$room/lines" "$room/lines"
 cp "$room/wrote" "$room/record"
 gives "lines and zero bytes, opened" 0 open $table "$room/record" "$room/lines"
@@ -84,6 +84,37 @@ gives "64 rows and a byte more" 1 check-table "$room/longer"
 gives "a use that is none" 1 check-table "$room/broken"
 gives "an empty file for a table" 1 check-table /dev/null
 
+# kinds KIND ..: a table of rows with the name TAPE1, each a use and a type; one for GCM has the key of examples/table.bin, another zeros
+kinds() {
+    local kind
+    hex 00 01 "$(printf '%04x' $#)" 00 08 00 48
+    for kind; do
+        hex 05 "$kind" 00 00 00 00 $gcm
+        zeros 27
+        if [ "$kind" = 020000 ]; then tail -c +49 $table | head -c 32; else zeros 32; fi
+    done
+}
+kinds 030001 020000 030002 >"$room/three"
+kinds 030001 030002 >"$room/keks"
+gives "one name for GCM and for key-encrypting keys of both types" 0 check-table "$room/three"
+gives "one name for key-encrypting keys of both types" 0 check-table "$room/keks"
+# unfit NAME KIND ..: such a table is refused by itself, and where a record is opened by it
+unfit() {
+    local name=$1
+    shift
+    kinds "$@" >"$room/unfit"
+    gives "$name" 1 check-table "$room/unfit"
+    gives "$name, and a record" 1 open "$room/unfit" $record $data
+}
+unfit "a table of the old kind, whose key-encrypting key has no type" 030000
+unfit "a table of the old kind, with a row for GCM" 020000 030000
+unfit "a key-encrypting key of type 0003h" 030003
+unfit "a key-encrypting key of type 0100h" 030100
+unfit "a row for CCM with a type" 010001
+unfit "a row for GCM with a type" 020002
+unfit "two key-encrypting keys of one type and name" 030002 030002
+unfit "one name for CCM and for GCM" 010000 020000
+
 # ---- sealing refused
 
 last=$(printf '%064x' 63)
@@ -104,7 +135,10 @@ gives "seal, 4,097 bytes of associated data" 4 seal $table $gcm $iv $plain "$roo
 gives "seal by a name of no row" 6 seal $table 5441504533 $iv $plain
 gives "seal by the front of a name" 6 seal $table ${gcm%??} $iv $plain
 gives "seal by a name and a zero byte" 6 seal $table ${gcm}00 $iv $plain
-gives "seal by a key-encrypting key" 7 seal $table $kek $iv $plain
+gives "seal by a key-encrypting key" 6 seal $table $kek $iv $plain
+gives "seal by key-encrypting keys of both types" 6 seal "$room/keks" $gcm $iv $plain
+gives "seal where key-encrypting keys have the name too" 0 seal "$room/three" $gcm $iv $plain $data
+same "the record of examples/" "$room/wrote" examples/records/gcm.bin
 gives "seal, the lowest of all" 1 seal "$room/broken" "${last}00" 00 "$room/plain1" "$room/data1"
 gives "seal, 2 before 4" 2 seal $table "${last}00" 00 "$room/plain1" "$room/data1"
 
@@ -131,6 +165,8 @@ gives "open, n = 2,000,000" 4 open $table "$room/wider"
 gives "open, a name of 33 bytes" 4 open $table "$room/name33"
 gives "open, 4,097 bytes of associated data" 4 open $table $record "$room/data1"
 gives "open by a table without the name" 6 open "$room/empty" $record $data
+gives "open by key-encrypting keys of both types" 6 open "$room/keks" $record $data
+gives "open where key-encrypting keys have the name too" 0 open "$room/three" $record $data
 gives "open by a row of another use" 7 open "$room/other-use" $record $data
 gives "open with other associated data" 9 open $table $record $plain
 gives "open without the associated data" 9 open $table $record

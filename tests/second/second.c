@@ -1,5 +1,5 @@
 /*
- * The second program: answers lines of calls as document 01 has them, on OpenSSL's libcrypto. It shares no code
+ * The second program: answers lines of calls as documents 01 and 02 have them, on OpenSSL's libcrypto. It shares no code
  * with the unit. Each line is NAME CALL words: byte strings, then numbers in decimal; its answer is NAME, the number,
  * and what was lent as it is after the call. An output is lent full of A5h, with as many bytes as the line's last word
  * says; so is a number stored, and a session to be started. A line of session_issue or of seal_next ends with prefix,
@@ -31,6 +31,14 @@ struct asked {
     struct session *session;
 };
 
+/* A type is lent in 16 bits: a line with a wider one is no call. */
+static unsigned sixteen_bits(unsigned long long n)
+{
+    if (n > 0xffff)
+        fail("not a call", "a number has more than 16 bits");
+    return (unsigned)n;
+}
+
 static int call_aes256_encrypt(struct asked a) { return block(1, 1, a.w); }
 static int call_aes256_decrypt(struct asked a) { return block(0, 1, a.w); }
 static int call_aes256_encrypt_1000(struct asked a) { return block(1, 1000, a.w); }
@@ -42,7 +50,7 @@ static int call_gcm_decrypt(struct asked a) { return mode_decrypt(0, a.w, a.out)
 static int call_wrap(struct asked a) { return wrap(a.w, a.out); }
 static int call_unwrap(struct asked a) { return unwrap(a.w, a.out); }
 static int call_table_check(struct asked a) { return table_bad(a.w[0]); }
-static int call_find(struct asked a) { return find(a.w, a.stored); }
+static int call_find(struct asked a) { return find(a.w, sixteen_bits(a.n[0]), a.stored); }
 static int call_seal(struct asked a) { return seal(a.w, a.out); }
 static int call_open(struct asked a) { return open_record(a.w, a.out, a.stored); }
 static int call_record_check(struct asked a) { return record_check(a.w[0]); }
@@ -75,7 +83,7 @@ static const struct call {
     { "wrap", 2, 0, OUTPUT, 0, call_wrap },
     { "unwrap", 2, 0, OUTPUT, 0, call_unwrap },
     { "table_check", 1, 0, NOTHING, 0, call_table_check },
-    { "find", 2, 0, NOTHING, 1, call_find },
+    { "find", 2, 1, NOTHING, 1, call_find },
     { "seal", 5, 0, OUTPUT, 0, call_seal },
     { "open", 3, 0, OUTPUT, 1, call_open },
     { "record_check", 1, 0, NOTHING, 0, call_record_check },

@@ -1,5 +1,5 @@
 // The unit on a command line: argument 1 is the command, and the others are file names, `-` for standard input, and hexadecimal words.
-// What a command gives goes to standard output. A refusal is a line `6: no row of that name` on standard error, and misuse any other line there:
+// What a command gives goes to standard output. A refusal is a line `6: no row of that type and name` on standard error, and misuse any other line there:
 // a program has no exit status, so `./spadeswirl` makes one of these.
 mod labels;
 mod meanings;

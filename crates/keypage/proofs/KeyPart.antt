@@ -12,7 +12,7 @@ use Rattle.octets.specs.Lent.{when}
 use Rattle.octets.specs.Tests.{every}
 use Rattle.octets.proofs.Lent.{isNot-false, isNot-right}
 use Rattle.octets.proofs.Tests.{every-at}
-use Rattle.keytable.specs.Row.{nameMax, rowKeySize}
+use Rattle.keytable.specs.Row.{nameMax, rowKeySize, isKekType}
 use Rattle.keypage.specs.KeyPart.{plainFormat, referenceFormat, wrappedFormat, referenceMin, byFormat, needsRow}
 use Rattle.keypage.specs.KeyPart.{kekType, identifierSize, identifierAt, wrappedTests, partBroken, partRefused, partLong}
 use Rattle.keypage.specs.Laws.{PartLaid, plain, reference, wrapped}
@@ -44,7 +44,7 @@ unfolding partRefused
 known f s e = go (eqb f plainFormat) (eqb f referenceFormat) (eqb f wrappedFormat) refl refl refl e
   where
     go : (a b c : Bool) → eqb f plainFormat ≡ a → eqb f referenceFormat ≡ b → eqb f wrappedFormat ≡ c
-        → when a false (when b false (when c (not (eqb (kekType s) 1 || eqb (kekType s) 2)) true)) ≡ false → Known f
+        → when a false (when b false (when c (not (isKekType (kekType s))) true)) ≡ false → Known f
     go true b c p q r h = as-plain (eqb-true f plainFormat p)
     go false true c p q r h = as-reference (eqb-true f referenceFormat q)
     go false false true p q r h = as-wrapped (eqb-true f wrappedFormat r)
@@ -64,7 +64,7 @@ known-needs f (as-wrapped e) n = ap needsRow e
 
 -- ---- the KEK type
 
-kek-type : (k : ℕ) → (eqb k 1 || eqb k 2) ≡ true → (1 ≤ k) × (k ≤ 2)
+kek-type : (k : ℕ) → isKekType k ≡ true → (1 ≤ k) × (k ≤ 2)
 kek-type k e = go (eqb k 1) (eqb k 2) refl refl e
   where
     go : (a b : Bool) → eqb k 1 ≡ a → eqb k 2 ≡ b → (a || b) ≡ true → (1 ≤ k) × (k ≤ 2)
@@ -72,7 +72,7 @@ kek-type k e = go (eqb k 1) (eqb k 2) refl refl e
     go false true p q h = let two = eqb-true k 2 q in (omega arith, omega arith)
     go false false p q h = absurd (false≢true h)
 
-type-kek : (k : ℕ) → 1 ≤ k → k ≤ 2 → (eqb k 1 || eqb k 2) ≡ true
+type-kek : (k : ℕ) → 1 ≤ k → k ≤ 2 → isKekType k ≡ true
 type-kek k low high = go (eqb k 1) (eqb k 2) refl refl
   where
     go : (a b : Bool) → eqb k 1 ≡ a → eqb k 2 ≡ b → (a || b) ≡ true
@@ -113,7 +113,7 @@ module _ (s : List ℕ) where
   unfolding partBroken partRefused partLong
   wrapped-laid h =
       let tests = not-false (every (wrappedTests s)) (h .whole) in
-      let kind = kek-type (kekType s) (not-false (eqb (kekType s) 1 || eqb (kekType s) 2) (h .permitted)) in
+      let kind = kek-type (kekType s) (not-false (isKekType (kekType s)) (h .permitted)) in
       wrapped refl (kind .0) (kind .1)
       (leb-true 1 (identifierSize s) (every-at (wrappedTests s) 1 tests))
       (ltb-false nameMax (identifierSize s) (h .short))

@@ -1,7 +1,7 @@
 -- What 0 of loading tells, for an accepted table, a page that reading accepts and room: no test of the KEY part applied; and the other way.
 -- Assumes nothing.
 use mathlib.Core.Path.{_≡_, refl, sym, ap, _∙_}
-use mathlib.Core.Bool.{Bool, true, false, _&&_, not, false≢true}
+use mathlib.Core.Bool.{true, false, false≢true}
 use mathlib.Core.List.{List}
 use mathlib.Core.Option.{Option, some, none}
 use Prim.Native.Nat.{ℕ}
@@ -10,10 +10,10 @@ use borrow.Author.Tests.{eqb-true, eq-eqb, le-ltb, not-false}
 use lib.Dec.{eqb}
 use lib.ListN.{length}
 use Rattle.octets.specs.Lent.{lowest, over}
-use Rattle.keytable.specs.Row.{rowKeySize, useOf}
+use Rattle.keytable.specs.Row.{rowKeySize, Row}
 use Rattle.keytable.specs.Table.{tableOk}
 use Rattle.keypage.specs.Page.{algorithmIn, formatIn, keyPart, fieldsOf}
-use Rattle.keypage.specs.KeyPart.{referenceFormat, needsRow, useFor}
+use Rattle.keypage.specs.KeyPart.{referenceFormat, needsRow}
 use Rattle.keypage.specs.Load.{rowNamed, partTests, keyLoaded, loadNumber, loadRow, loadAnswer}
 use Rattle.keypage.specs.Laws.{Given, Loads}
 use Rattle.octets.proofs.Lent.{testAt, none-applies, over-injective}
@@ -21,36 +21,33 @@ use Rattle.keypage.proofs.LoadNumbers.{load-number}
 
 -- ---- the KEY part's own tests, 6 to 9, and what each tells that does not apply
 
-abbrev pub partNumber : Option (List ℕ) → ℕ → ℕ → List ℕ → ℕ
+abbrev pub partNumber : Option Row → ℕ → ℕ → List ℕ → ℕ
 partNumber row algorithm f s = lowest (partTests row algorithm f s)
 
 -- where 0 is given none does
-pub part-passed : (o : Option (List ℕ)) (algorithm f : ℕ) (s : List ℕ) → partNumber o algorithm f s ≡ 0 → (i : ℕ) → testAt (partTests o algorithm f s) i ≡ false
+pub part-passed : (o : Option Row) (algorithm f : ℕ) (s : List ℕ) → partNumber o algorithm f s ≡ 0 → (i : ℕ) → testAt (partTests o algorithm f s) i ≡ false
 part-passed o algorithm f s e i = none-applies (partTests o algorithm f s) i refl e
 
 -- where a row is needed and 6 does not apply there is one
-pub part-row : (o : Option (List ℕ)) (algorithm f : ℕ) (s : List ℕ) → needsRow f ≡ true → testAt (partTests o algorithm f s) 0 ≡ false
-    → (row : List ℕ) × (o ≡ some row)
+pub part-row : (o : Option Row) (algorithm f : ℕ) (s : List ℕ) → needsRow f ≡ true → testAt (partTests o algorithm f s) 0 ≡ false
+    → (row : Row) × (o ≡ some row)
 part-row none algorithm f s needs six = absurd (false≢true (sym six ∙ rw needs))
 part-row (some row) algorithm f s needs six = (row, refl)
 
 pub part-none : (algorithm f : ℕ) (s : List ℕ) → needsRow f ≡ true → partNumber none algorithm f s ≡ 6
 part-none algorithm f s needs = rw needs
 
--- and where 7 does not, its use is the one needed
-pub part-use : (row : List ℕ) (algorithm f : ℕ) (s : List ℕ) → needsRow f ≡ true → testAt (partTests (some row) algorithm f s) 1 ≡ false
-    → useOf row ≡ useFor f algorithm
-part-use row algorithm f s needs seven =
-    let same = eqb (useOf row) (useFor f algorithm) in
-    eqb-true (useOf row) (useFor f algorithm) (not-false same (sym (ap (λ (b : Bool). b && not same) needs) ∙ seven))
+-- and where a reference's 7 does not, its use is the algorithm index
+pub part-use : (row : Row) (algorithm : ℕ) (s : List ℕ) → testAt (partTests (some row) algorithm referenceFormat s) 1 ≡ false → row .rowUse ≡ algorithm
+part-use row algorithm s seven = eqb-true (row .rowUse) algorithm (not-false (eqb (row .rowUse) algorithm) seven)
 
 -- of a reference nothing else is tested
-pub reference-passed : (row : List ℕ) (algorithm : ℕ) (s : List ℕ) → useOf row ≡ algorithm → partNumber (some row) algorithm referenceFormat s ≡ 0
-reference-passed row algorithm s e = rw (eq-eqb (useOf row) algorithm e)
+pub reference-passed : (row : Row) (algorithm : ℕ) (s : List ℕ) → row .rowUse ≡ algorithm → partNumber (some row) algorithm referenceFormat s ≡ 0
+reference-passed row algorithm s e = rw (eq-eqb (row .rowUse) algorithm e)
 
 -- ---- the whole call, by a format, the row found for it and the key it then gives
 
-abbrev pub rowGiven : List ℕ → List ℕ → ℕ → Option (List ℕ)
+abbrev pub rowGiven : List ℕ → List ℕ → ℕ → Option Row
 rowGiven t p f = rowNamed t f (keyPart p)
 
 abbrev pub numberIn : List ℕ → List ℕ → ℕ → ℕ

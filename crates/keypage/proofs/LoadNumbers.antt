@@ -11,17 +11,17 @@ use lib.ListN.{length}
 use Rattle.octets.specs.Lent.{lowest, over, kept, answer}
 use Rattle.octets.proofs.Lent.{isNot-right}
 use Rattle.octets.proofs.Lowest.{lowest-refused}
-use Rattle.keytable.specs.Row.{rowKeySize, useOf, rowKey}
+use Rattle.keytable.specs.Row.{rowKeySize, Row}
 use Rattle.keywrap.specs.Calls.{unwrapNumber, unwrapAnswer}
 use Rattle.keypage.specs.Page.{algorithmIn, formatIn, keyPart, fieldsOf}
-use Rattle.keypage.specs.KeyPart.{plainFormat, referenceFormat, wrappedFormat, kekUse, wrappedOf}
+use Rattle.keypage.specs.KeyPart.{plainFormat, referenceFormat, wrappedFormat, wrappedOf}
 use Rattle.keypage.specs.Read.{pageReadTests, pageReadNumber}
 use Rattle.keypage.specs.Load.{partTests, keyLoaded, partAnswer, loadTests, loadNumber, loadRow}
 use Rattle.keypage.proofs.ReadNumbers.{read-passed}
 
 -- ---- the KEY part by the row that matched, the algorithm index and the format
 
-module _ (row : Option (List ℕ)) (algorithm : ℕ) (s out : List ℕ) where
+module _ (row : Option Row) (algorithm : ℕ) (s out : List ℕ) where
   pub plain-zero : (f : ℕ) → f ≡ plainFormat → partAnswer row algorithm f s out ≡ (0, over s out)
   unfolding keyLoaded
   plain-zero f e = rw e
@@ -34,34 +34,30 @@ module _ (row : Option (List ℕ)) (algorithm : ℕ) (s out : List ℕ) where
   unfolding keyLoaded
   wrapped-six e = rw e
 
-  module _ (found : List ℕ) (has : row ≡ some found) where
-    pub reference-seven : eqb (useOf found) algorithm ≡ false → partAnswer row algorithm referenceFormat s out ≡ (7, out)
+  module _ (found : Row) (has : row ≡ some found) where
+    pub reference-seven : eqb (found .rowUse) algorithm ≡ false → partAnswer row algorithm referenceFormat s out ≡ (7, out)
     unfolding keyLoaded
     reference-seven e = rw (has, e)
 
-    pub reference-zero : eqb (useOf found) algorithm ≡ true → partAnswer row algorithm referenceFormat s out ≡ (0, over (rowKey found) out)
+    pub reference-zero : eqb (found .rowUse) algorithm ≡ true → partAnswer row algorithm referenceFormat s out ≡ (0, over (found .rowKey) out)
     unfolding keyLoaded
     reference-zero e = rw (has, e)
 
-    pub wrapped-seven : eqb (useOf found) kekUse ≡ false → partAnswer row algorithm wrappedFormat s out ≡ (7, out)
-    unfolding keyLoaded
-    wrapped-seven e = rw (has, e)
-
     -- the unwrapping's own 2 and 5 cannot come
-    pub wrapped-rest : eqb (useOf found) kekUse ≡ true → length (rowKey found) ≡ rowKeySize → rowKeySize ≤ length out
-        → partAnswer row algorithm wrappedFormat s out ≡ unwrapAnswer (rowKey found) (wrappedOf s) out
+    pub wrapped-rest : length (found .rowKey) ≡ rowKeySize → rowKeySize ≤ length out
+        → partAnswer row algorithm wrappedFormat s out ≡ unwrapAnswer (found .rowKey) (wrappedOf s) out
     unfolding keyLoaded unwrapAnswer unwrapNumber
-    wrapped-rest e size room = rw (has, e, isNot-right rowKeySize (rowKey found) size, le-ltb (length out) rowKeySize room)
+    wrapped-rest size room = rw (has, isNot-right rowKeySize (found .rowKey) size, le-ltb (length out) rowKeySize room)
 
 -- ---- the load
 
 -- for an accepted table, a page that reading accepts, and room, the KEY part's own tests are left
-pub load-number : (ok : Bool) (row : Option (List ℕ)) (p : List ℕ) (room : ℕ) → ok ≡ true → pageReadNumber p ≡ 0 → ltb room rowKeySize ≡ false
+pub load-number : (ok : Bool) (row : Option Row) (p : List ℕ) (room : ℕ) → ok ≡ true → pageReadNumber p ≡ 0 → ltb room rowKeySize ≡ false
     → loadNumber ok row p room ≡ lowest (partTests row (algorithmIn p) (formatIn p) (keyPart p))
 unfolding loadNumber
 load-number ok row p room good readable fits = let passed = read-passed p readable in rw (good, passed .whole, passed .permitted, passed .short, fits)
 
-module _ (ok : Bool) (row : Option (List ℕ)) (p out fields : List ℕ) where
+module _ (ok : Bool) (row : Option Row) (p out fields : List ℕ) where
   pub load-one : ok ≡ false → loadRow ok row p out fields ≡ ((1, out), fields)
   unfolding loadRow loadNumber
   load-one e = rw e

@@ -12,7 +12,7 @@ use lib.ListN.{length, getD}
 use Rattle.octets.specs.Lent.{Tests, when, lowest}
 use Rattle.octets.specs.Lowest.{rises}
 use Rattle.octets.proofs.Lowest.{lower-none}
-use Rattle.keytable.specs.Row.{rowKeySize}
+use Rattle.keytable.specs.Row.{rowKeySize, Row}
 use Rattle.keytable.specs.Table.{tableOk}
 use Rattle.keytable.specs.Calls.{missing, useIn}
 use Rattle.keypage.specs.Page.{algorithmIn, formatIn, keyPart}
@@ -36,7 +36,7 @@ not-nine false true e = omega arith
 not-nine false false e = omega arith
 
 -- only a wrapped key's part gives it
-nine-wrapped : (o : Option (List ℕ)) (algorithm f : ℕ) (s : List ℕ) → Known f → partNumber o algorithm f s ≡ 9 → f ≡ wrappedFormat
+nine-wrapped : (o : Option Row) (algorithm f : ℕ) (s : List ℕ) → Known f → partNumber o algorithm f s ≡ 9 → f ≡ wrappedFormat
 nine-wrapped o algorithm f s k nine = third-format f k plain reference
   where
     plain : f ≡ plainFormat → ⊥
@@ -76,7 +76,7 @@ module _ (t p out fields : List ℕ) (nine : loadAnswer t p out fields .0 .0 ≡
   is : formatIn p ≡ wrappedFormat
   is = nine-wrapped (rowGiven t p (formatIn p)) (algorithmIn p) (formatIn p) (keyPart p) (known (formatIn p) (keyPart p) (read-part p (given .readable) .permitted)) part-nine
 
-  pub nine-matched : (row : List ℕ) × KekMatched t p out row
+  pub nine-matched : (row : Row) × KekMatched t p out row
   nine-matched =
       let no = not-before (partTests (rowGiven t p wrappedFormat) (algorithmIn p) wrappedFormat (keyPart p)) refl (rw is at part-nine) in
-      matched-row t p out given is (no 0 6 _ refl (omega arith)) (no 1 7 _ refl (omega arith)) (no 2 8 _ refl (omega arith))
+      matched-row t p out given is (no 0 6 _ refl (omega arith)) (no 2 8 _ refl (omega arith))

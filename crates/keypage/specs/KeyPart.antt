@@ -1,14 +1,14 @@
 -- The KEY part of a page by its format (document 01, "Key page"; source document 002): what is read of it, and its own tests.
 -- Assumes nothing.
 use Prim.Native.Nat.{ℕ, _+_}
-use mathlib.Core.Bool.{Bool, true, false, not, _||_}
+use mathlib.Core.Bool.{Bool, true, false, not}
 use mathlib.Core.List.{List, [], _∷_}
 use lib.ListN.{length, drop}
 use lib.Dec.{eqb, leb, ltb}
 use Rattle.octets.specs.BigEndian.{numberAt}
 use Rattle.octets.specs.Lent.{when, isNot}
 use Rattle.octets.specs.Tests.{every, partOf}
-use Rattle.keytable.specs.Row.{nameMax, rowKeySize}
+use Rattle.keytable.specs.Row.{nameMax, rowKeySize, isKekType}
 
 -- "00h: the key, 32 bytes"; "01h: a reference, 9 bytes or more"; "04h: 0-1 KEK type .., 2-3 identifier length, identifier, wrapped key"
 abbrev pub plainFormat : ℕ
@@ -53,18 +53,12 @@ partBroken f s = byFormat f (isNot rowKeySize s) (ltb (length s) referenceMin) (
 
 -- 3: "KEK type not permitted; unknown KEY FORMAT"
 unfoldable pub partRefused : ℕ → List ℕ → Bool
-partRefused f s = byFormat f false false (not (eqb (kekType s) 1 || eqb (kekType s) 2)) true
+partRefused f s = byFormat f false false (not (isKekType (kekType s))) true
 
 -- 4: "a maximum above is passed (names and identifiers too)"
 unfoldable pub partLong : ℕ → List ℕ → Bool
 partLong f s = byFormat f false (ltb nameMax (length s)) (ltb nameMax (identifierSize s)) false
 
--- "01h: .. the row's use equals ALGORITHM INDEX"; "04h: .. The row's use is 03h"
+-- a reference and a wrapped key are by a row
 abbrev pub needsRow : ℕ → Bool
 needsRow f = byFormat f false true true false
-
-abbrev pub kekUse : ℕ
-kekUse = 3
-
-abbrev pub useFor : ℕ → ℕ → ℕ
-useFor f algorithm = byFormat f 0 algorithm kekUse 0

@@ -13,15 +13,16 @@ use Rattle.octets.specs.Lowest.{rises}
 use Rattle.octets.specs.Unique.{Unique}
 use Rattle.octets.specs.Tests.{zeros, partOf}
 use Rattle.octets.specs.BigEndian.{numberAt}
-use Rattle.keytable.specs.Row.{rowKeySize, nameMax, useOf, rowKey}
-use Rattle.keytable.specs.Table.{tableOk, rowFor, dataRow}
+use Rattle.keytable.specs.Row.{rowKeySize, nameMax, kekUse, Row}
+use Rattle.keytable.specs.Table.{tableOk, dataRow}
+use Rattle.keytable.specs.Laws.{RowMore}
 use Rattle.keywrap.specs.Calls.{wrappedSize}
 use Rattle.keywrap.specs.Laws.{WrapsTo}
 use Rattle.descriptors.specs.Laws.{Accepted}
 use Rattle.keypage.specs.Page.{pageCode, pageMax, keyPartAt, scopeIn, reservedIn, encryptionIn, decryptionIn, algorithmIn, formatIn, keyLength, keyPart, listIn, pageStrict, fieldsOf}
-use Rattle.keypage.specs.KeyPart.{plainFormat, referenceFormat, wrappedFormat, referenceMin, kekType, kekUse, identifierSize, identifierOf, wrappedOf, identifierAt}
+use Rattle.keypage.specs.KeyPart.{plainFormat, referenceFormat, wrappedFormat, referenceMin, kekType, identifierSize, wrappedOf, identifierAt}
 use Rattle.keypage.specs.Read.{pageReadTests, pageReadNumber, pageReadAnswer}
-use Rattle.keypage.specs.Load.{rowNamed, partTests, loadTests, loadAnswer}
+use Rattle.keypage.specs.Load.{kekRow, rowNamed, partTests, loadTests, loadAnswer}
 
 -- ---- reading accepts exactly the pages of the layout with permitted values
 
@@ -75,18 +76,18 @@ LoadsPlain = (t p out fields : List ℕ) → Given t p out → formatIn p ≡ pl
 abbrev pub LoadsReference : Type 0
 LoadsReference =
     (t p out fields k : List ℕ) → Given t p out → formatIn p ≡ referenceFormat
-    → Loads t p out fields k ↔ ((row : List ℕ) × (dataRow t (keyPart p) ≡ some row) × (useOf row ≡ algorithmIn p) × (rowKey row ≡ k))
+    → Loads t p out fields k ↔ ((row : Row) × (dataRow t (keyPart p) ≡ some row) × (row .rowUse ≡ algorithmIn p) × (row .rowKey ≡ k))
 
 -- k is a key of 32 bytes that wraps to the wrapped bytes of a 04h page, under a row's key
-abbrev pub WrapsUnder : List ℕ → List ℕ → List ℕ → Type 0
-WrapsUnder row k p = WrapsTo (rowKey row) k (wrappedOf (keyPart p))
+abbrev pub WrapsUnder : Row → List ℕ → List ℕ → Type 0
+WrapsUnder row k p = WrapsTo (row .rowKey) k (wrappedOf (keyPart p))
 
--- a 04h page gives k exactly when there is a KEK's row of that whole identifier and wrapping k by it gives the 40 bytes
+-- a 04h page gives k exactly when there is a row of its KEK's type and whole identifier and wrapping k by it gives the 40 bytes
 abbrev pub LoadsWrapped : Type 0
 LoadsWrapped =
     (t p out fields k : List ℕ) → Given t p out → Bytes t → Bytes p → formatIn p ≡ wrappedFormat
     → Loads t p out fields k
-    ↔ ((row : List ℕ) × (rowFor t (identifierOf (keyPart p)) ≡ some row) × (useOf row ≡ kekUse) × WrapsUnder row k p)
+    ↔ ((row : Row) × (kekRow t (keyPart p) ≡ some row) × WrapsUnder row k p)
 
 -- "Where no row answers, the load stops there with 6."
 abbrev pub NoRowSix : Type 0
@@ -97,34 +98,33 @@ NoRowSix =
 -- ---- what 9 says of a 04h page (document 02, No. 13): "It is stated over wrapping alone and not by running the unwrap."
 
 -- "table and page accepted, room for the key, a KEK row matched and 40 wrapped bytes"
-pub record KekMatched (t p out row : List ℕ) : Type 0 where
+pub record KekMatched (t p out : List ℕ) (row : Row) : Type 0 where
   pub given : Given t p out
   pub format : formatIn p ≡ wrappedFormat
-  pub matched : rowFor t (identifierOf (keyPart p)) ≡ some row
-  pub kek : useOf row ≡ kekUse
+  pub matched : kekRow t (keyPart p) ≡ some row
   pub size : length (wrappedOf (keyPart p)) ≡ wrappedSize
 
 -- "the load gives a key exactly when some 32-byte key wraps to those bytes under that row": that key
 abbrev pub LoadsWhatWraps : Type 0
 LoadsWhatWraps =
-    (t p out fields row k : List ℕ) → Bytes t → Bytes p → KekMatched t p out row → Loads t p out fields k ↔ WrapsUnder row k p
+    (t p out fields : List ℕ) (row : Row) (k : List ℕ) → Bytes t → Bytes p → KekMatched t p out row → Loads t p out fields k ↔ WrapsUnder row k p
 
 -- "there is at most one"
 abbrev pub OneKeyWraps : Type 0
 OneKeyWraps =
-    (t p out row k k′ : List ℕ) → Bytes t → KekMatched t p out row → WrapsUnder row k p → WrapsUnder row k′ p → k ≡ k′
+    (t p out : List ℕ) (row : Row) (k k′ : List ℕ) → Bytes t → KekMatched t p out row → WrapsUnder row k p → WrapsUnder row k′ p → k ≡ k′
 
 -- "and 9 comes exactly when there is none", with the output and the fields as they were
 abbrev pub LoadNineExactly : Type 0
 LoadNineExactly =
-    (t p out fields row : List ℕ) → Bytes t → Bytes p → KekMatched t p out row
+    (t p out fields : List ℕ) (row : Row) → Bytes t → Bytes p → KekMatched t p out row
     → (loadAnswer t p out fields ≡ ((9, out), fields)) ↔ ((k : List ℕ) → WrapsUnder row k p → ⊥)
 
 -- and the number alone says as much: whatever the table, the page and the output, a load gives 9 only where all this is so
 abbrev pub NineSays : Type 0
 NineSays =
     (t p out fields : List ℕ) → Bytes t → Bytes p → loadAnswer t p out fields .0 .0 ≡ 9
-    → (row : List ℕ) × KekMatched t p out row × ((k : List ℕ) → WrapsUnder row k p → ⊥)
+    → (row : Row) × KekMatched t p out row × ((k : List ℕ) → WrapsUnder row k p → ⊥)
 
 -- ---- other rows change nothing
 
@@ -134,16 +134,28 @@ LoadOtherRows =
     → rowNamed t (formatIn p) (keyPart p) ≡ rowNamed u (formatIn p) (keyPart p)
     → loadAnswer t p out fields ≡ loadAnswer u p out fields
 
+-- so the row of a key-encrypting key changes no answer for a reference, were it of the reference's name, nor any other row one for a 04h page
+
+abbrev pub ReferenceBesideKek : Type 0
+ReferenceBesideKek =
+    (t u : List ℕ) (row : Row) (p out fields : List ℕ) → tableOk t ≡ true → tableOk u ≡ true → RowMore t u row → row .rowUse ≡ kekUse
+    → formatIn p ≡ referenceFormat → loadAnswer u p out fields ≡ loadAnswer t p out fields
+
+abbrev pub WrappedBesideData : Type 0
+WrappedBesideData =
+    (t u : List ℕ) (row : Row) (p out fields : List ℕ) → tableOk t ≡ true → tableOk u ≡ true → RowMore t u row → (row .rowUse ≡ kekUse → ⊥)
+    → formatIn p ≡ wrappedFormat → loadAnswer u p out fields ≡ loadAnswer t p out fields
+
 -- ---- "The lowest that applies is given, and no other."
 
 abbrev pub PageReadTestsRise : Type 0
 PageReadTestsRise = (p : List ℕ) → rises (pageReadTests p) ≡ true
 
 abbrev pub PartTestsRise : Type 0
-PartTestsRise = (row : Option (List ℕ)) (algorithm f : ℕ) (s : List ℕ) → rises (partTests row algorithm f s) ≡ true
+PartTestsRise = (row : Option Row) (algorithm f : ℕ) (s : List ℕ) → rises (partTests row algorithm f s) ≡ true
 
 abbrev pub LoadTestsRise : Type 0
-LoadTestsRise = (ok : Bool) (row : Option (List ℕ)) (p : List ℕ) (room : ℕ) → rises (loadTests ok row p room) ≡ true
+LoadTestsRise = (ok : Bool) (row : Option Row) (p : List ℕ) (room : ℕ) → rises (loadTests ok row p room) ≡ true
 
 -- ---- for each input one answer, and one state of what is lent
 

@@ -7,42 +7,47 @@ use mathlib.Core.Option.{Option, some, none}
 use lib.ListN.{length}
 use lib.Dec.{eqb, ltb}
 use Rattle.octets.specs.Lent.{isNot, Tests, lowest, kept, answer}
-use Rattle.keytable.specs.Row.{rowKeySize, rowKey}
+use Rattle.keytable.specs.Row.{rowKeySize, Row}
 use Rattle.keytable.specs.Table.{tableOk, rowFor, dataRow}
 use Rattle.keytable.specs.Calls.{missing, useIn}
 use Rattle.keywrap.specs.Wrap as wrap
 use Rattle.keywrap.specs.Calls.{wrappedSize}
 use Rattle.keypage.specs.Page.{algorithmIn, formatIn, keyPart, fieldsOf}
-use Rattle.keypage.specs.KeyPart.{byFormat, identifierOf, wrappedOf, needsRow, useFor}
+use Rattle.keypage.specs.KeyPart.{byFormat, kekType, identifierOf, wrappedOf, needsRow}
 use Rattle.keypage.specs.Read.{broken, refused, long}
 
--- the row that a KEY part names: by a reference, as a record's name is looked for, or by the KEK's identifier; a 00h page names none
-abbrev pub rowNamed : List ℕ → ℕ → List ℕ → Option (List ℕ)
-rowNamed t f s = byFormat f none (dataRow t s) (rowFor t (identifierOf s)) none
+-- the row of a wrapped key's KEK, by its type and its whole identifier
+abbrev pub kekRow : List ℕ → List ℕ → Option Row
+kekRow t s = rowFor t (kekType s) (identifierOf s)
+
+-- the row that a KEY part names: by a reference, as a record's name is looked for, or the KEK's; a 00h page names none
+abbrev pub rowNamed : List ℕ → ℕ → List ℕ → Option Row
+rowNamed t f s = byFormat f none (dataRow t s) (kekRow t s) none
 
 -- the key of the row that matched
-abbrev pub keyIn : Option (List ℕ) → List ℕ
+abbrev pub keyIn : Option Row → List ℕ
 keyIn none = []
-keyIn (some row) = rowKey row
+keyIn (some row) = row .rowKey
 
--- 6 to 9, by the row that matched, the page's algorithm index, and the format and bytes of its KEY part
-abbrev pub partTests : Option (List ℕ) → ℕ → ℕ → List ℕ → Tests
+-- 6 to 9, by the row that matched, the page's algorithm index, and the format and bytes of its KEY part; 7 is a reference's: "01h: .. the row's use equals
+-- ALGORITHM INDEX"
+abbrev pub partTests : Option Row → ℕ → ℕ → List ℕ → Tests
 partTests row algorithm f s =
     (6, needsRow f && missing row)
-    ∷ (7, needsRow f && not (eqb (useIn row) (useFor f algorithm)))
+    ∷ (7, byFormat f false (not (eqb (useIn row) algorithm)) false false)
     ∷ (8, byFormat f false false (isNot wrappedSize (wrappedOf s)) false)
     ∷ (9, byFormat f false false (not (wrap.startRight (keyIn row) (wrappedOf s))) false)
     ∷ []
 
 -- the key: the KEY part itself, the row's, or what the wrapped bytes hold
-unfoldable pub keyLoaded : Option (List ℕ) → ℕ → List ℕ → List ℕ
+unfoldable pub keyLoaded : Option Row → ℕ → List ℕ → List ℕ
 keyLoaded row f s = byFormat f s (keyIn row) (wrap.unwrappedKey (keyIn row) (wrappedOf s)) []
 
 -- what the KEY part decides, with room for the key
-abbrev pub partAnswer : Option (List ℕ) → ℕ → ℕ → List ℕ → List ℕ → ℕ × List ℕ
+abbrev pub partAnswer : Option Row → ℕ → ℕ → List ℕ → List ℕ → ℕ × List ℕ
 partAnswer row algorithm f s out = answer (lowest (partTests row algorithm f s)) (keyLoaded row f s) out
 
-abbrev pub loadTests : Bool → Option (List ℕ) → List ℕ → ℕ → Tests
+abbrev pub loadTests : Bool → Option Row → List ℕ → ℕ → Tests
 loadTests ok row p room =
     (1, not ok)
     ∷ (2, broken p)
@@ -51,11 +56,11 @@ loadTests ok row p room =
     ∷ (5, ltb room rowKeySize)
     ∷ partTests row (algorithmIn p) (formatIn p) (keyPart p)
 
-unfoldable pub loadNumber : Bool → Option (List ℕ) → List ℕ → ℕ → ℕ
+unfoldable pub loadNumber : Bool → Option Row → List ℕ → ℕ → ℕ
 loadNumber ok row p room = lowest (loadTests ok row p room)
 
 -- by whether the table is accepted and the row that matched; the fields are lent too, and changed by 0 alone
-unfoldable pub loadRow : Bool → Option (List ℕ) → List ℕ → List ℕ → List ℕ → (ℕ × List ℕ) × List ℕ
+unfoldable pub loadRow : Bool → Option Row → List ℕ → List ℕ → List ℕ → (ℕ × List ℕ) × List ℕ
 loadRow ok row p out fields = (
   answer (loadNumber ok row p (length out)) (keyLoaded row (formatIn p) (keyPart p)) out,
   kept (loadNumber ok row p (length out)) (fieldsOf p) fields,

@@ -34,7 +34,7 @@ fn load_part(table: &[u8], algorithm: usize, format: usize, s: &[u8], out: &mut 
     if format == REFERENCE_FORMAT {
         return load_reference(table, algorithm, s, out);
     }
-    load_wrapped(table, algorithm, s, out)
+    load_wrapped(table, s, out)
 }
 
 // Loads: document 01's number; after 0 the first 32 bytes of the output are the key, and the page's fields are stored.

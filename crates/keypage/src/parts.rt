@@ -1,8 +1,6 @@
 // The KEY part of a page, by its format: its own tests. Each is lent the part alone.
 use crate::sizes::IDENTIFIER_AT;
 use crate::sizes::IDENTIFIER_LENGTH_AT;
-use crate::sizes::KEK_BY_SAI;
-use crate::sizes::KEK_BY_VALUE;
 use crate::sizes::KEK_TYPE_AT;
 use crate::sizes::KEY_SIZE;
 use crate::sizes::NAME_MAX;
@@ -10,6 +8,7 @@ use crate::sizes::PLAIN_FORMAT;
 use crate::sizes::REFERENCE_FORMAT;
 use crate::sizes::REFERENCE_MIN;
 use crate::sizes::WRAPPED_FORMAT;
+use keytable::is_kek_type;
 use octets::big_endian::read16;
 ghost use mathlib.Core.Path.{_≡_};
 ghost use mathlib.Core.Bool.{not};
@@ -51,8 +50,7 @@ pub(crate) fn part_refused(format: usize, s: &[u8]) -> bool
         return false;
     }
     if format == WRAPPED_FORMAT {
-        let kind = read16(s, KEK_TYPE_AT);
-        return !((kind == KEK_BY_SAI) | (kind == KEK_BY_VALUE));
+        return !is_kek_type(read16(s, KEK_TYPE_AT));
     }
     true
 }

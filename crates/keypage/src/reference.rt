@@ -1,4 +1,5 @@
 // The reader of a KEY part of format 01h: a reference.
+use keytable::DATA_TYPE;
 use keytable::Found;
 use keytable::key_at;
 use keytable::use_at;
@@ -17,7 +18,7 @@ pub(crate) fn load_reference(table: &[u8], algorithm: usize, s: &[u8], out: &mut
     requires { ⌜ (tableOk (now table) ≡ true) × (rowKeySize ≤ length (now out)) ⌝ }
     ensures { λ x. ⌜ partAnswer (dataRow (now (table .entry)) (now (s .entry))) algorithm referenceFormat (now (s .entry)) (now (out .entry)) ≡ (x, now (out .exit)) ⌝ }
 {
-    let Found::At(at) = keytable::find(table, s) else {
+    let Found::At(at) = keytable::find(table, DATA_TYPE, s) else {
         return 6;
     };
     let used = use_at(table, at) as usize;

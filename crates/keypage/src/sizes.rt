@@ -73,15 +73,9 @@ pub(crate) const REFERENCE_MIN: usize = 9;
 
 pub(crate) const NAME_MAX: usize = 32;
 
-// Format 04h: the identifier is a DS_SAI, or a value that the device server assigned (source document 002).
+// Format 04h: where its words and its identifier stand.
 pub(crate) const KEK_TYPE_AT: usize = 0;
-
-pub(crate) const KEK_BY_SAI: usize = 0x0001;
-
-pub(crate) const KEK_BY_VALUE: usize = 0x0002;
 
 pub(crate) const IDENTIFIER_LENGTH_AT: usize = 2;
 
 pub(crate) const IDENTIFIER_AT: usize = 4;
-
-pub(crate) const KEK_USE: u8 = 3;

@@ -1,18 +1,18 @@
 -- The layout of a key table: what an accepted header and an accepted row say, and the rows by their number.
 -- Assumes nothing.
-use mathlib.Core.Path.{_≡_, refl, ap, _∙_}
+use mathlib.Core.Path.{_≡_, refl, sym, ap, _∙_}
 use mathlib.Core.Bool.{Bool, true, false}
 use mathlib.Core.List.{List, []}
 use Prim.Native.Nat.{ℕ, zero, suc, _+_, _*_, _≤_, _<_}
 use native.Mathlib.Nat.{le-of-suc-le-suc, not-suc-le-zero}
 use native.Mathlib.Omega.{arith}
 use borrow.Author.Tests.{leb-true, eqb-true}
-use lib.ListN.{length, getD, take, drop}
+use lib.ListN.{length, getD, take, drop, List·getD-map, length-map}
 use lib.Seq.{drop-drop}
 use Rattle.octets.specs.Tests.{all, partOf}
-use Rattle.keytable.specs.Row.{rowSize, nameMax, nameLength, rowOk, rowTests}
-use Rattle.keytable.specs.Table.{tableHeadSize, rowPlace, headOk, headTests, tableOk, tableTests, rows, rowsOf, rowCount, distinct}
-use Rattle.octets.proofs.Tests.{all-stop, all-turn, all-end, every-at}
+use Rattle.keytable.specs.Row.{rowSize, nameMax, useMax, nameLength, useOf, typeIn, typeFits, rowOk, rowTests, rowIn}
+use Rattle.keytable.specs.Table.{tableHeadSize, rowPlace, headOk, headTests, tableOk, tableTests, rows, rowParts, rowsOf, rowNumber, rowCount, distinct}
+use Rattle.octets.proofs.Tests.{all-stop, all-turn, all-end, all-at, every-at}
 
 -- ---- the header
 
@@ -26,7 +26,7 @@ pub accepted-head : (t : List ℕ) → tableOk t ≡ true → headOk t ≡ true
 unfolding tableOk
 accepted-head t e = every-at (tableTests t) 0 e
 
-pub accepted-rows : (t : List ℕ) → tableOk t ≡ true → all rowOk (rowsOf t) ≡ true
+pub accepted-rows : (t : List ℕ) → tableOk t ≡ true → all rowOk (rowParts t) ≡ true
 unfolding tableOk
 accepted-rows t e = every-at (tableTests t) 1 e
 
@@ -41,10 +41,13 @@ unfolding rows
 length-rows zero s = refl
 length-rows (suc n) s = ap suc (length-rows n (drop rowSize s))
 
+length-parts : (t : List ℕ) → length (rowParts t) ≡ rowCount t
+unfolding rowParts
+length-parts t = length-rows (rowCount t) (drop tableHeadSize t)
+
 -- a table has as many rows as its header says
 pub length-rowsOf : (t : List ℕ) → length (rowsOf t) ≡ rowCount t
-unfolding rowsOf
-length-rowsOf t = length-rows (rowCount t) (drop tableHeadSize t)
+length-rowsOf t = length-map (rowParts t) rowIn ∙ length-parts t
 
 rows-at : (n i : ℕ) (s : List ℕ) → i < n → getD (rows n s) i [] ≡ take rowSize (drop (rowSize * i) s)
 unfolding rows
@@ -61,24 +64,45 @@ pub rowsOf-done : (t : List ℕ) (i : ℕ) → rowCount t ≤ i → length (rows
 rowsOf-done t i h = simp length-rowsOf h
 
 -- row i of a table is its part from place 8 + 72 i
-pub rowsOf-at : (t : List ℕ) (i : ℕ) → i < rowCount t → getD (rowsOf t) i [] ≡ partOf t (rowPlace i) rowSize
-unfolding rowsOf
-rowsOf-at t i h = rows-at (rowCount t) i (drop tableHeadSize t) h ∙ rw drop-drop
+pub parts-at : (t : List ℕ) (i : ℕ) → i < rowCount t → getD (rowParts t) i [] ≡ partOf t (rowPlace i) rowSize
+unfolding rowParts
+parts-at t i h = rows-at (rowCount t) i (drop tableHeadSize t) h ∙ rw drop-drop
 
--- ---- an accepted row
-
-pub name-short : (row : List ℕ) → rowOk row ≡ true → nameLength row ≤ nameMax
-unfolding rowOk
-name-short row e = leb-true (nameLength row) nameMax (every-at (rowTests row) 1 e)
+pub rowsOf-at : (t : List ℕ) (i : ℕ) → i < rowCount t → rowNumber (rowsOf t) i ≡ rowIn (partOf t (rowPlace i) rowSize)
+rowsOf-at t i h = List·getD-map rowIn (rowParts t) i [] ∙ ap rowIn (parts-at t i h)
 
 -- ---- all rows: what is left at row i decides
 
 module _ (p : List ℕ → Bool) (t : List ℕ) (i : ℕ) where
-  pub rows-stop : i < rowCount t → p (partOf t (rowPlace i) rowSize) ≡ false → all p (drop i (rowsOf t)) ≡ false
-  rows-stop h e = all-stop p (rowsOf t) i [] (rowsOf-more t i h) (ap p (rowsOf-at t i h) ∙ e)
+  pub rows-stop : i < rowCount t → p (partOf t (rowPlace i) rowSize) ≡ false → all p (drop i (rowParts t)) ≡ false
+  rows-stop h e = all-stop p (rowParts t) i [] (simp length-parts h) (ap p (parts-at t i h) ∙ e)
 
-  pub rows-turn : i < rowCount t → p (partOf t (rowPlace i) rowSize) ≡ true → all p (drop i (rowsOf t)) ≡ all p (drop (i + 1) (rowsOf t))
-  rows-turn h e = all-turn p (rowsOf t) i [] (rowsOf-more t i h) (ap p (rowsOf-at t i h) ∙ e)
+  pub rows-turn : i < rowCount t → p (partOf t (rowPlace i) rowSize) ≡ true → all p (drop i (rowParts t)) ≡ all p (drop (i + 1) (rowParts t))
+  rows-turn h e = all-turn p (rowParts t) i [] (simp length-parts h) (ap p (parts-at t i h) ∙ e)
 
-  pub rows-end : rowCount t ≤ i → all p (drop i (rowsOf t)) ≡ true
-  rows-end h = all-end p (rowsOf t) i (rowsOf-done t i h)
+  pub rows-end : rowCount t ≤ i → all p (drop i (rowParts t)) ≡ true
+  rows-end h = all-end p (rowParts t) i (simp length-parts h)
+
+-- ---- an accepted row
+
+pub record RowKept (s : List ℕ) : Type 0 where
+  pub name-short : nameLength s ≤ nameMax
+  pub use-low : 1 ≤ useOf s
+  pub use-high : useOf s ≤ useMax
+  pub use-fits : typeFits (useOf s) (typeIn s) ≡ true
+
+pub row-kept : (s : List ℕ) → rowOk s ≡ true → RowKept s
+unfolding rowOk
+row-kept s e =
+    record {
+      name-short = leb-true (nameLength s) nameMax (every-at (rowTests s) 1 e);
+      use-low = leb-true 1 (useOf s) (every-at (rowTests s) 2 e);
+      use-high = leb-true (useOf s) useMax (every-at (rowTests s) 3 e);
+      use-fits = every-at (rowTests s) 4 e;
+    }
+
+-- row i of an accepted table
+pub part-kept : (t : List ℕ) (i : ℕ) → tableOk t ≡ true → i < rowCount t → RowKept (partOf t (rowPlace i) rowSize)
+part-kept t i ok h =
+    row-kept (partOf t (rowPlace i) rowSize)
+    (ap rowOk (sym (parts-at t i h)) ∙ all-at rowOk (rowParts t) i [] (accepted-rows t ok) (simp length-parts h))

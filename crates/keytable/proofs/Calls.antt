@@ -12,8 +12,8 @@ use Rattle.octets.specs.Lent.{lowest}
 use Rattle.keytable.specs.declared.Table.{Table}
 use Rattle.keytable.specs.declared.Table.the-variants.{Rows, Broken}
 use Rattle.octets.specs.Tests.{all}
-use Rattle.keytable.specs.Row.{rowOk, nameMax, useOf}
-use Rattle.keytable.specs.Table.{headOk, tableOk, tableTests, rowCount, rowsOf, distinct}
+use Rattle.keytable.specs.Row.{rowOk, nameMax, typeMax, Row}
+use Rattle.keytable.specs.Table.{headOk, tableOk, tableTests, rowCount, rowParts, rowsOf, distinct}
 use Rattle.keytable.specs.Calls.{tableNumber, tableSays, tableAnswer, useNumber, useAnswer}
 use Rattle.octets.proofs.Tests.{every-not}
 
@@ -23,7 +23,7 @@ pub table-refused : (t : List ℕ) (i : ℕ) → getD (tableTests t) i true ≡ 
 unfolding tableOk tableNumber tableAnswer
 table-refused t i e = rw (every-not (tableTests t) i e)
 
-pub table-accepted : (t : List ℕ) → headOk t ≡ true → all rowOk (rowsOf t) ≡ true → distinct (rowsOf t) ≡ true → tableAnswer t ≡ (0, rowCount t ∷ [])
+pub table-accepted : (t : List ℕ) → headOk t ≡ true → all rowOk (rowParts t) ≡ true → distinct (rowsOf t) ≡ true → tableAnswer t ≡ (0, rowCount t ∷ [])
 unfolding tableOk tableNumber tableAnswer
 table-accepted t h a d = rw (h, a, d)
 
@@ -58,24 +58,31 @@ tableIn-says Broken = refl
 
 -- ---- the lookup as a call of its own: each number in turn
 
-module _ (ok : Bool) (row : Option (List ℕ)) (name : List ℕ) (before : ℕ) where
-  pub use-one : ok ≡ false → useAnswer ok row name before ≡ (1, before)
+module _ (ok : Bool) (row : Option Row) (type : ℕ) (name : List ℕ) (before : ℕ) where
+  pub use-one : ok ≡ false → useAnswer ok row type name before ≡ (1, before)
   unfolding useNumber useAnswer
   use-one e = rw e
 
-  pub use-two : ok ≡ true → eqb (length name) 0 ≡ true → useAnswer ok row name before ≡ (2, before)
-  unfolding useNumber useAnswer
-  use-two e empty = rw (e, empty)
+  module _ (accepted : ok ≡ true) where
+    pub use-two : eqb (length name) 0 ≡ true → useAnswer ok row type name before ≡ (2, before)
+    unfolding useNumber useAnswer
+    use-two empty = rw (accepted, empty)
 
-  pub use-four : ok ≡ true → eqb (length name) 0 ≡ false → ltb nameMax (length name) ≡ true → useAnswer ok row name before ≡ (4, before)
-  unfolding useNumber useAnswer
-  use-four e named long = rw (e, named, long)
+    module _ (named : eqb (length name) 0 ≡ false) where
+      pub use-three : ltb typeMax type ≡ true → useAnswer ok row type name before ≡ (3, before)
+      unfolding useNumber useAnswer
+      use-three unknown = rw (accepted, named, unknown)
 
-  pub use-six : ok ≡ true → eqb (length name) 0 ≡ false → ltb nameMax (length name) ≡ false → row ≡ none → useAnswer ok row name before ≡ (6, before)
-  unfolding useNumber useAnswer
-  use-six e named short nowhere = rw (e, named, short, nowhere)
+      module _ (known : ltb typeMax type ≡ false) where
+        pub use-four : ltb nameMax (length name) ≡ true → useAnswer ok row type name before ≡ (4, before)
+        unfolding useNumber useAnswer
+        use-four long = rw (accepted, named, known, long)
 
-  pub use-done : (r : List ℕ) → ok ≡ true → eqb (length name) 0 ≡ false → ltb nameMax (length name) ≡ false → row ≡ some r
-      → useAnswer ok row name before ≡ (0, useOf r)
-  unfolding useNumber useAnswer
-  use-done r e named short found = rw (e, named, short, found)
+        module _ (short : ltb nameMax (length name) ≡ false) where
+          pub use-six : row ≡ none → useAnswer ok row type name before ≡ (6, before)
+          unfolding useNumber useAnswer
+          use-six nowhere = rw (accepted, named, known, short, nowhere)
+
+          pub use-done : (r : Row) → row ≡ some r → useAnswer ok row type name before ≡ (0, r .rowUse)
+          unfolding useNumber useAnswer
+          use-done r found = rw (accepted, named, known, short, found)

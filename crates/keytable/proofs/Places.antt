@@ -1,4 +1,4 @@
--- What a case of the lookup tells: the place that the table has for the name, and whether a row has it.
+-- What a case of the lookup tells: the place that the table has for the type and the name, and whether a row has them.
 -- Assumes nothing.
 use mathlib.Core.Path.{_≡_, refl, sym, ap, _∙_}
 use mathlib.Core.Bool.{true, false}
@@ -10,6 +10,7 @@ use lib.Dec.{eqb}
 use types.Run.{OneOf}
 use denote.Enum.Declared.{tagOf, declared}
 use Rattle.octets.specs.Lent.{when}
+use Rattle.keytable.specs.Row.{Row}
 use Rattle.keytable.specs.Table.{absent}
 use Rattle.keytable.specs.Find.{foundSays, placeFrom}
 use Rattle.keytable.specs.declared.Found.{Found}
@@ -39,13 +40,13 @@ NotAt f = OneOf (1 ∷ 2 ∷ []) (tagOf (declared Rattle.keytable.proofs.proof
 abbrev pub NotNothing : Found → Type 0
 NotNothing f = OneOf (0 ∷ 2 ∷ []) (tagOf (declared Rattle.keytable.proofs.Found.enum) f)
 
--- along rows: whether one of them has the name
-module _ (at : ℕ) (name : List ℕ) (xs : List (List ℕ)) (f : Found) (e : foundSays f ≡ foundSays (placeFrom at name xs)) where
-  pub nothing-absent : f ≡ Nothing → absent name xs ≡ true
-  nothing-absent is = placeFrom-absent at name xs (sym (says-same f (placeFrom at name xs) e) ∙ is)
+-- along rows: whether one of them has the type and the name
+module _ (at type : ℕ) (name : List ℕ) (xs : List Row) (f : Found) (e : foundSays f ≡ foundSays (placeFrom at type name xs)) where
+  pub nothing-absent : f ≡ Nothing → absent type name xs ≡ true
+  nothing-absent is = placeFrom-absent at type name xs (sym (says-same f (placeFrom at type name xs) e) ∙ is)
 
-  pub else-present : NotNothing f → absent name xs ≡ false
-  else-present other = placeFrom-present at name xs (λ nothing. never f (says-same f (placeFrom at name xs) e ∙ nothing) other)
+  pub else-present : NotNothing f → absent type name xs ≡ false
+  else-present other = placeFrom-present at type name xs (λ nothing. never f (says-same f (placeFrom at type name xs) e ∙ nothing) other)
     where
       never : (g : Found) → g ≡ Nothing → NotNothing g → ⊥
       never g is w = ⊎-elim (λ z. omega arith) (λ z. omega arith) (rw is at w)

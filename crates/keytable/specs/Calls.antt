@@ -7,7 +7,7 @@ use mathlib.Core.Option.{Option, some, none}
 use lib.ListN.{length}
 use lib.Dec.{eqb, ltb}
 use Rattle.octets.specs.Lent.{when, Tests, lowest, kept}
-use Rattle.keytable.specs.Row.{nameMax, useOf}
+use Rattle.keytable.specs.Row.{nameMax, typeMax, Row}
 use Rattle.keytable.specs.Table.{rowCount, tableOk, rowFor}
 use Rattle.keytable.specs.declared.Table.{Table}
 use Rattle.keytable.specs.declared.Table.the-variants.{Rows, Broken}
@@ -29,22 +29,24 @@ tableAnswer t = (tableNumber t, when (tableOk t) (rowCount t ∷ []) [])
 
 -- ---- the lookup as a call of its own: by whether the table is accepted and the row that matched; the use is lent, and changed by 0 alone
 
-abbrev pub missing : Option (List ℕ) → Bool
+abbrev pub missing : Option Row → Bool
 missing none = true
 missing (some row) = false
 
-abbrev pub useIn : Option (List ℕ) → ℕ
+abbrev pub useIn : Option Row → ℕ
 useIn none = 0
-useIn (some row) = useOf row
+useIn (some row) = row .rowUse
 
-abbrev pub useTests : Bool → Option (List ℕ) → List ℕ → Tests
-useTests ok row name = (1, not ok) ∷ (2, eqb (length name) 0) ∷ (4, ltb nameMax (length name)) ∷ (6, missing row) ∷ []
+-- 3: a type that no row can have
+abbrev pub useTests : Bool → Option Row → ℕ → List ℕ → Tests
+useTests ok row type name =
+    (1, not ok) ∷ (2, eqb (length name) 0) ∷ (3, ltb typeMax type) ∷ (4, ltb nameMax (length name)) ∷ (6, missing row) ∷ []
 
-unfoldable pub useNumber : Bool → Option (List ℕ) → List ℕ → ℕ
-useNumber ok row name = lowest (useTests ok row name)
+unfoldable pub useNumber : Bool → Option Row → ℕ → List ℕ → ℕ
+useNumber ok row type name = lowest (useTests ok row type name)
 
-unfoldable pub useAnswer : Bool → Option (List ℕ) → List ℕ → ℕ → ℕ × ℕ
-useAnswer ok row name before = (useNumber ok row name, kept (useNumber ok row name) (useIn row) before)
+unfoldable pub useAnswer : Bool → Option Row → ℕ → List ℕ → ℕ → ℕ × ℕ
+useAnswer ok row type name before = (useNumber ok row type name, kept (useNumber ok row type name) (useIn row) before)
 
-abbrev pub findUse : List ℕ → List ℕ → ℕ → ℕ × ℕ
-findUse t name before = useAnswer (tableOk t) (rowFor t name) name before
+abbrev pub findUse : List ℕ → ℕ → List ℕ → ℕ → ℕ × ℕ
+findUse t type name before = useAnswer (tableOk t) (rowFor t type name) type name before

@@ -3,84 +3,135 @@
 use mathlib.Core.Path.{_≡_}
 use mathlib.Core.Logic.{_↔_}
 use mathlib.Core.Bool.{Bool, true, false}
-use mathlib.Core.List.{List, [], _∷_}
+use mathlib.Core.List.{List, [], _∷_, _++_}
 use mathlib.Core.Option.{Option, some, none}
 use Prim.Native.Nat.{ℕ, _+_, _≤_, _<_}
-use lib.ListN.{length, getD}
+use lib.ListN.{length}
 use Rattle.octets.specs.Lowest.{rises}
 use Rattle.octets.specs.Places.{Placed}
 use Rattle.octets.specs.Unique.{UniqueBy, Unique}
-use Rattle.keytable.specs.Row.{rowSize, rowKeySize, nameLength, nameOf, useOf, rowKey, rowOk, named, placedKey}
-use Rattle.keytable.specs.Table.{rowCount, headOk, rowsOf, tableOk, holders, rowFor, rowAt, placedRow}
+use Rattle.keytable.specs.Row.{rowSize, rowKeySize, nameMax, useMax, kekUse, nameLength, isKekType, typeFits, placedKey, rowOk, Row, rowIn, matches}
+use Rattle.keytable.specs.Table.{rowCount, headOk, rowsOf, rowNumber, tableOk, distinct, holders, rowFor, dataRow, rowAt, placedRow}
 use Rattle.keytable.specs.Calls.{checkTests, tableSays, tableAnswer, useTests, findUse}
 use Rattle.keytable.specs.Find.{foundSays, foundAnswer, rowFound}
 use Rattle.keytable.specs.declared.Found.{Found}
 
--- ---- names
+-- ---- matches
 
--- "A name is matched whole": among accepted rows, the name is the row's own, all of it
-abbrev pub NamedWhole : Type 0
-NamedWhole = (name row : List ℕ) → length row ≡ rowSize → rowOk row ≡ true → (named name row ≡ true) ↔ (nameOf row ≡ name)
+-- "A match is type and whole name together"
+abbrev pub MatchesExactly : Type 0
+MatchesExactly = (type : ℕ) (name : List ℕ) (row : Row) → (matches type name row ≡ true) ↔ ((row .rowType ≡ type) × (row .rowName ≡ name))
 
--- so a row whose name is longer or shorter is another's, were it by one zero byte
+-- the name that is read of an accepted row is as long as its length byte says
+abbrev pub NameRead : Type 0
+NameRead = (s : List ℕ) → length s ≡ rowSize → rowOk s ≡ true → length (rowIn s .rowName) ≡ nameLength s
+
+-- so a row whose name is longer or shorter is another's, were it by one zero byte; and so is one of another type
 abbrev pub OtherLength : Type 0
-OtherLength = (name row : List ℕ) → (nameLength row ≡ length name → ⊥) → named name row ≡ false
+OtherLength = (type : ℕ) (name : List ℕ) (row : Row) → (length (row .rowName) ≡ length name → ⊥) → matches type name row ≡ false
 
--- "No two rows have the same name": two rows of one name are one row
+abbrev pub OtherType : Type 0
+OtherType = (type : ℕ) (name : List ℕ) (row : Row) → (row .rowType ≡ type → ⊥) → matches type name row ≡ false
+
+-- "rows differ by that pair": the test of it is passed exactly where no two rows have both one type and one name
+abbrev pub DifferExactly : Type 0
+DifferExactly =
+    (xs : List Row) → (distinct xs ≡ true)
+    ↔ ((i j : ℕ) → i < length xs → j < length xs → rowNumber xs i .rowType ≡ rowNumber xs j .rowType → rowNumber xs i .rowName ≡ rowNumber xs j .rowName → i ≡ j)
+
+-- so two rows of an accepted table that match one type and one name are one row
 abbrev pub OneRow : Type 0
 OneRow =
-    (t name : List ℕ) (i j : ℕ) → tableOk t ≡ true → i < rowCount t → j < rowCount t
-    → named name (getD (rowsOf t) i []) ≡ true → named name (getD (rowsOf t) j []) ≡ true → i ≡ j
+    (t : List ℕ) (type : ℕ) (name : List ℕ) (i j : ℕ) → tableOk t ≡ true → i < rowCount t → j < rowCount t
+    → matches type name (rowNumber (rowsOf t) i) ≡ true → matches type name (rowNumber (rowsOf t) j) ≡ true → i ≡ j
 
 abbrev pub AtMostOne : Type 0
-AtMostOne = (t name : List ℕ) → tableOk t ≡ true → length (holders name (rowsOf t)) ≤ 1
+AtMostOne = (t : List ℕ) (type : ℕ) (name : List ℕ) → tableOk t ≡ true → length (holders type name (rowsOf t)) ≤ 1
 
 -- ---- the lookup
 
--- what a lookup found, in an accepted table, is the row of the name
+-- what a lookup found, in an accepted table, is the row of the type and the name
 abbrev pub FindsRow : Type 0
-FindsRow = (t name : List ℕ) (f : Found) → tableOk t ≡ true → foundSays f ≡ foundAnswer t name → rowFor t name ≡ rowFound t f
+FindsRow =
+    (t : List ℕ) (type : ℕ) (name : List ℕ) (f : Found) → tableOk t ≡ true → foundSays f ≡ foundAnswer t type name → rowFor t type name ≡ rowFound t f
 
--- row stands at a place that the lookup of the name gives, within the table
-pub record FoundRow (t name row : List ℕ) : Type 0 where
+-- row stands at a place that the lookup gives, within the table
+pub record FoundRow (t : List ℕ) (type : ℕ) (name : List ℕ) (row : Row) : Type 0 where
   pub place : ℕ
-  pub answers : foundAnswer t name ≡ (0, place ∷ [])
+  pub answers : foundAnswer t type name ≡ (0, place ∷ [])
   pub is : rowAt t place ≡ row
   pub within : place + rowSize ≤ length t
 
 -- a place is given exactly where there is such a row, and the row there is that row
 abbrev pub FindsExactly : Type 0
-FindsExactly = (t name row : List ℕ) → tableOk t ≡ true → FoundRow t name row ↔ (rowFor t name ≡ some row)
+FindsExactly =
+    (t : List ℕ) (type : ℕ) (name : List ℕ) (row : Row) → tableOk t ≡ true → FoundRow t type name row ↔ (rowFor t type name ≡ some row)
 
 abbrev pub ElseNothing : Type 0
-ElseNothing = (t name : List ℕ) → tableOk t ≡ true → (foundAnswer t name ≡ (6, [])) ↔ (rowFor t name ≡ none)
+ElseNothing = (t : List ℕ) (type : ℕ) (name : List ℕ) → tableOk t ≡ true → (foundAnswer t type name ≡ (6, [])) ↔ (rowFor t type name ≡ none)
 
 -- and 1 is said exactly of a table whose header breaks the layout
 abbrev pub FindsBroken : Type 0
-FindsBroken = (t name : List ℕ) → (foundAnswer t name ≡ (1, [])) ↔ (headOk t ≡ false)
+FindsBroken = (t : List ℕ) (type : ℕ) (name : List ℕ) → (foundAnswer t type name ≡ (1, [])) ↔ (headOk t ≡ false)
 
--- the row of a name in an accepted table keeps to the layout, has that name, and has a whole key
-pub record GoodRow (name row : List ℕ) : Type 0 where
-  pub size : length row ≡ rowSize
-  pub ok : rowOk row ≡ true
-  pub name-is : nameOf row ≡ name
-  pub key-size : length (rowKey row) ≡ rowKeySize
+-- the row of a type and a name in an accepted table has them both, the name within its maximum, a use that goes with the type, and a whole key
+pub record GoodRow (type : ℕ) (name : List ℕ) (row : Row) : Type 0 where
+  pub type-is : row .rowType ≡ type
+  pub name-is : row .rowName ≡ name
+  pub name-short : length name ≤ nameMax
+  pub use-low : 1 ≤ row .rowUse
+  pub use-high : row .rowUse ≤ useMax
+  pub use-fits : typeFits (row .rowUse) type ≡ true
+  pub key-size : length (row .rowKey) ≡ rowKeySize
 
 abbrev pub RowForGood : Type 0
-RowForGood = (t name row : List ℕ) → tableOk t ≡ true → rowFor t name ≡ some row → GoodRow name row
+RowForGood = (t : List ℕ) (type : ℕ) (name : List ℕ) (row : Row) → tableOk t ≡ true → rowFor t type name ≡ some row → GoodRow type name row
 
--- ---- "Between two accepted tables with the same row for a name, or both with none, the other rows change no answer for that name"
+-- and is a key-encrypting key's exactly where the type is one of theirs
+abbrev pub KekByType : Type 0
+KekByType = (type : ℕ) (name : List ℕ) (row : Row) → GoodRow type name row → (row .rowUse ≡ kekUse) ↔ (isKekType type ≡ true)
+
+-- a row of an accepted table is the row of its own type and name
+abbrev pub OwnRow : Type 0
+OwnRow =
+    (t : List ℕ) (i : ℕ) → tableOk t ≡ true → i < rowCount t
+    → let row = rowNumber (rowsOf t) i in rowFor t (row .rowType) (row .rowName) ≡ some row
+
+-- ---- "Between two accepted tables with the same row for a name, or both with none, the other rows change no answer for that name", a row read as
+-- document 02's No. 2 reads it
 
 abbrev pub OtherRows : Type 0
 OtherRows =
-    (t u name : List ℕ) (before : ℕ) → tableOk t ≡ true → tableOk u ≡ true → rowFor t name ≡ rowFor u name
-    → findUse t name before ≡ findUse u name before
+    (t u : List ℕ) (type : ℕ) (name : List ℕ) (before : ℕ) → tableOk t ≡ true → tableOk u ≡ true → rowFor t type name ≡ rowFor u type name
+    → findUse t type name before ≡ findUse u type name before
 
--- the same, from the rows of that name alone
+-- the same row, from the rows of that type and name alone
 abbrev pub HoldersRow : Type 0
 HoldersRow =
-    (t u name : List ℕ) → tableOk t ≡ true → tableOk u ≡ true → holders name (rowsOf t) ≡ holders name (rowsOf u)
-    → rowFor t name ≡ rowFor u name
+    (t u : List ℕ) (type : ℕ) (name : List ℕ) → tableOk t ≡ true → tableOk u ≡ true → holders type name (rowsOf t) ≡ holders type name (rowsOf u)
+    → rowFor t type name ≡ rowFor u type name
+
+-- u has the rows of t and one more, at any place
+pub record RowMore (t u : List ℕ) (row : Row) : Type 0 where
+  pub before : List Row
+  pub after : List Row
+  pub without : rowsOf t ≡ before ++ after
+  pub has : rowsOf u ≡ before ++ (row ∷ after)
+
+-- a row of another type changes nothing, were it of the same name
+abbrev pub OtherTypeRow : Type 0
+OtherTypeRow =
+    (t u : List ℕ) (row : Row) (type : ℕ) (name : List ℕ) → RowMore t u row → (row .rowType ≡ type → ⊥) → rowFor u type name ≡ rowFor t type name
+
+-- so a key-encrypting key's row more changes nothing for a record or a reference, nor does another row more for a page that names a key-encrypting key
+abbrev pub KekRowMore : Type 0
+KekRowMore =
+    (t u : List ℕ) (row : Row) (name : List ℕ) → tableOk u ≡ true → RowMore t u row → row .rowUse ≡ kekUse → dataRow u name ≡ dataRow t name
+
+abbrev pub DataRowMore : Type 0
+DataRowMore =
+    (t u : List ℕ) (row : Row) (type : ℕ) (name : List ℕ) → tableOk u ≡ true → RowMore t u row → (row .rowUse ≡ kekUse → ⊥) → isKekType type ≡ true
+    → rowFor u type name ≡ rowFor t type name
 
 -- ---- "The lowest that applies is given, and no other."
 
@@ -88,7 +139,7 @@ abbrev pub CheckTestsRise : Type 0
 CheckTestsRise = (t : List ℕ) → rises (checkTests t) ≡ true
 
 abbrev pub UseTestsRise : Type 0
-UseTestsRise = (ok : Bool) (row : Option (List ℕ)) (name : List ℕ) → rises (useTests ok row name) ≡ true
+UseTestsRise = (ok : Bool) (row : Option Row) (type : ℕ) (name : List ℕ) → rises (useTests ok row type name) ≡ true
 
 -- ---- "Empty table: 00 01 00 00 00 08 00 48"
 
@@ -104,16 +155,16 @@ abbrev pub TableCheckUnique : Type 0
 TableCheckUnique = (t : List ℕ) → UniqueBy tableSays (tableAnswer t)
 
 abbrev pub FindUnique : Type 0
-FindUnique = (t name : List ℕ) → UniqueBy foundSays (foundAnswer t name)
+FindUnique = (t : List ℕ) (type : ℕ) (name : List ℕ) → UniqueBy foundSays (foundAnswer t type name)
 
 abbrev pub RowAtUnique : Type 0
 RowAtUnique = (t : Placed) (at : ℕ) → Unique (placedRow t at)
 
 abbrev pub UseAtUnique : Type 0
-UseAtUnique = (t : List ℕ) (at : ℕ) → Unique (useOf (rowAt t at))
+UseAtUnique = (t : List ℕ) (at : ℕ) → Unique (rowAt t at .rowUse)
 
 abbrev pub KeyAtUnique : Type 0
 KeyAtUnique = (t : Placed) (at : ℕ) → Unique (placedKey (placedRow t at))
 
 abbrev pub FindUseUnique : Type 0
-FindUseUnique = (t name : List ℕ) (before : ℕ) → Unique (findUse t name before)
+FindUseUnique = (t : List ℕ) (type : ℕ) (name : List ℕ) (before : ℕ) → Unique (findUse t type name before)

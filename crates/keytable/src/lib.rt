@@ -1,4 +1,5 @@
-// The key table of document 01: its check, and the lookup of a name. specs/Table.antt has the layout, specs/Calls.antt the numbers.
+// The key table of document 01, with document 02's types of keys: its check, and the lookup of a type and a name. specs/Table.antt has the layout,
+// specs/Calls.antt the numbers.
 mod row;
 mod rows;
 mod sizes;
@@ -7,11 +8,13 @@ use octets::big_endian::read8;
 use octets::big_endian::read16;
 use octets::strings::part_in;
 use rows::find_from;
-use rows::names_differ;
+use rows::rows_differ;
 use rows::rows_ok;
 use sizes::FIRST_ROW_AT;
 use sizes::FORMAT_AT;
 use sizes::HEAD_SIZE;
+use sizes::KEK_BY_SAI;
+use sizes::KEK_BY_VALUE;
 use sizes::KEY_AT;
 use sizes::KEY_SIZE;
 use sizes::NAME_MAX;
@@ -20,13 +23,17 @@ use sizes::ROW_LENGTH_AT;
 use sizes::ROW_MAX;
 use sizes::ROW_SIZE;
 use sizes::TABLE_FORMAT;
+use sizes::TYPE_MAX;
 use sizes::USE_AT;
 ghost use mathlib.Core.Path.{_≡_};
 ghost use Rattle.octets.specs.Places.{placed};
-ghost use Rattle.keytable.specs.Row.{useOf, placedKey};
+ghost use Rattle.keytable.specs.Row.{isKekType, placedKey};
 ghost use Rattle.keytable.specs.Table.{headOk, rowSizeAt, rowAt, placedRow};
 ghost use Rattle.keytable.specs.Calls.{tableSays, tableAnswer, findUse};
 ghost use Rattle.keytable.specs.Find.{foundSays, foundAnswer};
+
+// The type of a row that is no key-encrypting key's: records and references look for it.
+pub const DATA_TYPE: usize = 0x0000;
 
 // What checking a table finds: the number of its rows.
 pub enum Table {
@@ -34,8 +41,8 @@ pub enum Table {
     Broken,
 }
 
-// What a lookup finds: the place of the name's row, for the crates above; it is never answered outside. Nothing is number 6; Broken is number 1, of a
-// header that breaks its layout.
+// What a lookup finds: the place of the row, for the crates above; it is never answered outside. Nothing is number 6; Broken is number 1, of a header that
+// breaks its layout.
 pub enum Found {
     At(usize),
     Nothing,
@@ -65,24 +72,28 @@ pub fn check(t: &[u8]) -> Table
     if !rows_ok(t, r) {
         return Table::Broken;
     }
-    if !names_differ(t, r) {
+    if !rows_differ(t, r) {
         return Table::Broken;
     }
     Table::Rows(r)
 }
 
-// The place of the first row with this whole name, or Nothing where there is none, as for a name of more than 32 bytes. It is for callers that have
-// checked the table: of the layout it looks at the header alone.
-pub fn find(t: &[u8], name: &[u8]) -> Found
-    ensures { λ f. ⌜ foundSays f ≡ foundAnswer (now (t .entry)) (now (name .entry)) ⌝ }
+// Whether a key-encrypting key may have this type.
+pub fn is_kek_type(kind: usize) -> bool
+    ensures { λ r. ⌜ r ≡ isKekType kind ⌝ }
+{
+    (kind == KEK_BY_SAI) | (kind == KEK_BY_VALUE)
+}
+
+// The place of the first row with this type and this whole name, or Nothing where there is none. It is for callers that have checked the table: of the
+// layout it looks at the header alone.
+pub fn find(t: &[u8], kind: usize, name: &[u8]) -> Found
+    ensures { λ f. ⌜ foundSays f ≡ foundAnswer (now (t .entry)) kind (now (name .entry)) ⌝ }
 {
     if !head_ok(t) {
         return Found::Broken;
     }
-    if name.len() > NAME_MAX {
-        return Found::Nothing;
-    }
-    find_from(t, read16(t, ROW_COUNT_AT), 0, name)
+    find_from(t, read16(t, ROW_COUNT_AT), 0, kind, name)
 }
 
 // How long the row at a place is: a row's size, or none where it does not lie in the table.
@@ -107,7 +118,7 @@ pub fn row_at(t: &[u8], at: usize) -> &[u8]
 
 // The use and the key of the row at a place; 0 and none where no row lies there.
 pub fn use_at(t: &[u8], at: usize) -> u8
-    ensures { λ u. ⌜ u ≡ useOf (rowAt (now (t .entry)) at) ⌝ }
+    ensures { λ u. ⌜ u ≡ rowAt (now (t .entry)) at .rowUse ⌝ }
 {
     read8(row_at(t, at), USE_AT) as u8
 }
@@ -118,10 +129,10 @@ pub fn key_at(t: &[u8], at: usize) -> &[u8]
     part_in(row_at(t, at), KEY_AT, KEY_SIZE)
 }
 
-// Stores the use of the name's row, and answers 0; or changes nothing, and answers 1 where the table is broken, 2 for an empty name,
-// 4 for one of more than 32 bytes, or 6 where no row has the name.
-pub fn find_use(t: &[u8], name: &[u8], use_out: &mut u64) -> u8
-    ensures { λ n. ⌜ findUse (now (t .entry)) (now (name .entry)) (now (use_out .entry)) ≡ (n, now (use_out .exit)) ⌝ }
+// Stores the use of the row with this type and this whole name, and answers 0; or changes nothing, and answers 1 where the table is broken, 2 for an empty
+// name, 3 for a type over 2, 4 for a name of more than 32 bytes, or 6 where there is no such row.
+pub fn find_use(t: &[u8], kind: usize, name: &[u8], use_out: &mut u64) -> u8
+    ensures { λ n. ⌜ findUse (now (t .entry)) kind (now (name .entry)) (now (use_out .entry)) ≡ (n, now (use_out .exit)) ⌝ }
 {
     let Table::Rows(_) = check(t) else {
         return 1;
@@ -129,10 +140,13 @@ pub fn find_use(t: &[u8], name: &[u8], use_out: &mut u64) -> u8
     if name.len() == 0 {
         return 2;
     }
+    if kind > TYPE_MAX {
+        return 3;
+    }
     if name.len() > NAME_MAX {
         return 4;
     }
-    let Found::At(at) = find(t, name) else {
+    let Found::At(at) = find(t, kind, name) else {
         return 6;
     };
     *use_out = use_at(t, at) as u64;

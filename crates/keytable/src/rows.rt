@@ -1,8 +1,9 @@
-// The rows of a key table: whether all keep to the layout, which has a name, and whether no two have the same.
+// The rows of a key table: whether all keep to the layout, which has a type and a name, and whether no two have the same.
 use crate::Found;
-use crate::row::has_name;
+use crate::row::answers_to;
 use crate::row::name_of;
 use crate::row::row_ok;
+use crate::row::type_of;
 use crate::sizes::HEAD_SIZE;
 use crate::sizes::ROW_SIZE;
 ghost use mathlib.Core.Path.{_≡_};
@@ -10,7 +11,7 @@ ghost use Prim.Native.Nat.{_+_, _≤_};
 ghost use lib.ListN.{length, drop};
 ghost use Rattle.octets.specs.Tests.{all, partOf};
 ghost use Rattle.keytable.specs.Row.{rowSize, rowOk};
-ghost use Rattle.keytable.specs.Table.{rowPlace, rowCount, rowsOf, distinct};
+ghost use Rattle.keytable.specs.Table.{rowPlace, rowCount, rowParts, rowsOf, distinct};
 ghost use Rattle.keytable.specs.Find.{foundSays, placeFrom};
 
 // Row number i.
@@ -26,7 +27,7 @@ fn row(t: &[u8], i: usize) -> &[u8]
 // Whether each row keeps to the layout.
 pub(crate) fn rows_ok(t: &[u8], r: usize) -> bool
     requires { ⌜ (length (now t) ≡ rowPlace r) × (r ≡ rowCount (now t)) ⌝ }
-    ensures { λ ok. ⌜ ok ≡ all rowOk (rowsOf (now (t .entry))) ⌝ }
+    ensures { λ ok. ⌜ ok ≡ all rowOk (rowParts (now (t .entry))) ⌝ }
 {
     let mut i = 0;
     while i < r {
@@ -38,14 +39,14 @@ pub(crate) fn rows_ok(t: &[u8], r: usize) -> bool
     true
 }
 
-// The place of the first row from number `from` on that has this name.
-pub(crate) fn find_from(t: &[u8], r: usize, from: usize, name: &[u8]) -> Found
+// The place of the first row from number `from` on that has this type and this name.
+pub(crate) fn find_from(t: &[u8], r: usize, from: usize, kind: usize, name: &[u8]) -> Found
     requires { ⌜ (length (now t) ≡ rowPlace r) × (r ≡ rowCount (now t)) × (from ≤ r) ⌝ }
-    ensures { λ f. ⌜ foundSays f ≡ foundSays (placeFrom (rowPlace from) (now (name .entry)) (drop from (rowsOf (now (t .entry))))) ⌝ }
+    ensures { λ f. ⌜ foundSays f ≡ foundSays (placeFrom (rowPlace from) kind (now (name .entry)) (drop from (rowsOf (now (t .entry))))) ⌝ }
 {
     let mut i = from;
     while i < r {
-        if has_name(row(t, i), name) {
+        if answers_to(row(t, i), kind, name) {
             return Found::At(HEAD_SIZE + ROW_SIZE * i);
         }
         i += 1;
@@ -53,16 +54,16 @@ pub(crate) fn find_from(t: &[u8], r: usize, from: usize, name: &[u8]) -> Found
     Found::Nothing
 }
 
-// Whether no two rows have the same name.
-pub(crate) fn names_differ(t: &[u8], r: usize) -> bool
+// Whether no two rows have the same type and the same name.
+pub(crate) fn rows_differ(t: &[u8], r: usize) -> bool
     requires { ⌜ (length (now t) ≡ rowPlace r) × (r ≡ rowCount (now t)) ⌝ }
     ensures { λ ok. ⌜ ok ≡ distinct (rowsOf (now (t .entry))) ⌝ }
 {
     let mut i = 0;
     while i < r {
         let next = i + 1;
-        let name = name_of(row(t, i));
-        let Found::Nothing = find_from(t, r, next, name) else {
+        let this = row(t, i);
+        let Found::Nothing = find_from(t, r, next, type_of(this), name_of(this)) else {
             return false;
         };
         i = next;

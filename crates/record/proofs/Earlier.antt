@@ -9,7 +9,6 @@ use Rattle.octets.specs.Bytes.{Bytes}
 use Rattle.octets.specs.Lent.{over, answer}
 use Rattle.octets.proofs.Bytes.{bytes-append}
 use Rattle.octets.proofs.BigEndian.{bytes-be}
-use Rattle.keytable.specs.Row.{useOf, rowKey}
 use Rattle.keytable.specs.Table.{tableOk, dataRow}
 use Rattle.session.specs.Iv.{fieldSize, ivOf}
 use Rattle.session.specs.Calls.{sessionAfter}
@@ -55,7 +54,7 @@ module _ (t name iv a p : List ℕ) (room : ℕ) (table-bytes : Bytes t) (iv-byt
   record-fits e =
       let h = in-range (tableOk t) name iv a (length p) room (dataRow t name) e in
       rw (h .found-is) (
-        length-recordOf (useOf (h .found-row)) (rowKey (h .found-row)) name iv a p (row-keyed t name (h .found-row) iv table-bytes iv-bytes (h .accepted) (h .found-is) (h .iv-size)) (h .permitted),
+        length-recordOf (h .found-row .rowUse) (h .found-row .rowKey) name iv a p (row-keyed t name (h .found-row) iv table-bytes iv-bytes (h .accepted) (h .found-is) (h .iv-size)) (h .permitted),
         h .room-fits,
       )
 
@@ -96,4 +95,4 @@ open-earlier t r a out out′ count count′ table-bytes bytes same =
     fits e =
         let (row, has) = open-row (tableOk t) r a (length out) (dataRow t (nameIn r)) e in
         let h = openable (tableOk t) r a (length out) row (rw has at e) in
-        rw has (length-plaintextBy (rowKey row) r (open-keyed t r a row (length out) table-bytes bytes has h) (h .layout), h .fits)
+        rw has (length-plaintextBy (row .rowKey) r (open-keyed t r a row (length out) table-bytes bytes has h) (h .layout), h .fits)

@@ -7,7 +7,6 @@ use Prim.Native.Nat.{ℕ, _≤_}
 use native.Mathlib.Omega.{arith}
 use lib.ListN.{length}
 use Rattle.octets.specs.Bytes.{Bytes}
-use Rattle.keytable.specs.Row.{useOf, rowKey}
 use Rattle.modes.specs.Mode.{sealed}
 use Rattle.modes.specs.Modes.{namesMode, modeOf}
 use Rattle.modes.specs.Laws.{Keyed}
@@ -18,7 +17,7 @@ use Rattle.record.specs.Open.{authenticBy, plaintextBy}
 use Rattle.record.proofs.Parts.{layout-kept, parts-record, length-nameIn, length-ivIn, length-tagIn, permits-textIn, bytes-ivIn, bytes-textIn}
 use Rattle.record.proofs.Written.{front-back}
 use Rattle.record.proofs.Laid.{Laid}
-use Rattle.record.proofs.Sealed.{textBy, tagBy, length-textBy, length-tagBy, SealedAs, as-keyed, as-laid}
+use Rattle.record.proofs.Sealed.{data-row-mode, textBy, tagBy, length-textBy, length-tagBy, SealedAs, as-keyed, as-laid}
 use Rattle.record.proofs.Opened.{OpenedAs, open-keyed, length-plaintextBy}
 
 -- ---- what opens was sealed so
@@ -87,7 +86,6 @@ module _ (t r a out p : List ℕ) (table-bytes : Bytes t) (bytes : Bytes r) wher
               accepted = h .able .accepted;
               found-row = h .row;
               found-is = h .has-row;
-              names-mode = ap namesMode (h .able .use-is) ∙ h .able .mode;
               name-given = omega (arith, name-long, layout-kept r layout .named);
               iv-size = length-ivIn r layout ∙ ap (λ (u : ℕ). modeOf u .ivSize) (sym (h .able .use-is));
               permitted = ap₂ (λ (u n : ℕ). modeOf u .permits n) (h .able .use-is) size ∙ layout-kept r layout .permitted;
@@ -102,7 +100,7 @@ module _ (t r a out p : List ℕ) (table-bytes : Bytes t) (bytes : Bytes r) wher
       }
     where
       key : List ℕ
-      key = rowKey (h .row)
+      key = h .row .rowKey
 
       layout : layoutOk r ≡ true
       layout = h .able .layout
@@ -125,7 +123,7 @@ module _ (t r a out p : List ℕ) (table-bytes : Bytes t) (bytes : Bytes r) wher
             record {
               accepted = h .able .accepted;
               layout = read .layout;
-              mode = ap namesMode mode-is ∙ h .able .names-mode;
+              mode = ap namesMode mode-is ∙ data-row-mode t (nameIn r) (h .able .found-row) (h .able .accepted) (h .able .found-is);
               short = omega (arith, read .fields .size, h .able .name-fits);
               few = omega (arith, read .fields .count, h .able .text-fits);
               little = h .able .data-fits;
@@ -137,10 +135,10 @@ module _ (t r a out p : List ℕ) (table-bytes : Bytes t) (bytes : Bytes r) wher
       }
     where
       u : ℕ
-      u = useOf (h .able .found-row)
+      u = h .able .found-row .rowUse
 
       key : List ℕ
-      key = rowKey (h .able .found-row)
+      key = h .able .found-row .rowKey
 
       keyed : Keyed (modeOf u) key (ivIn r)
       keyed = as-keyed t (nameIn r) (ivIn r) a p r table-bytes h

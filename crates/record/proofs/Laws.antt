@@ -11,14 +11,15 @@ use Rattle.octets.specs.Lent.{when}
 use Rattle.octets.specs.Bytes.{Bytes}
 use Rattle.octets.proofs.Lent.{over-injective}
 use Rattle.octets.proofs.Unique.{unique, unique-by}
-use Rattle.keytable.specs.Row.{useOf, rowKey}
+use Rattle.keytable.specs.Row.{Row}
 use Rattle.keytable.specs.Table.{tableOk, dataRow}
+use Rattle.keytable.proofs.Laws.{kek-row-more}
 use Rattle.record.specs.Record.{endIn, nameIn, ivIn}
 use Rattle.record.specs.Read.{headerSays, headerNumber, headerAnswer}
 use Rattle.record.specs.Seal.{sealAnswer}
 use Rattle.record.specs.Open.{plaintextBy, openNumber, openAnswer}
 use Rattle.record.specs.Demand3.{Refuses, OpensExactly, OnePlaintext, OneOpening, ElseRefuses, SealedOpens}
-use Rattle.record.specs.Laws.{HeaderThere, HeaderBack, SealOtherRows, OpenOtherRows, HeaderUnique, EndUnique, RecordCheckUnique, SealUnique, RecordOpenUnique}
+use Rattle.record.specs.Laws.{HeaderThere, HeaderBack, SealOtherRows, OpenOtherRows, SealBesideKek, OpenBesideKek, HeaderUnique, EndUnique, RecordCheckUnique, SealUnique, RecordOpenUnique}
 use Rattle.record.specs.Laws.{HeaderTestsRise, SealTestsRise, RecordTagTestsRise, OpenTestsRise}
 use Rattle.record.specs.declared.header.Header.{Header}
 use Rattle.record.specs.declared.header.Header.the-variants.{Fields, BadForm, BadMode, TooLong}
@@ -37,14 +38,14 @@ opens-exactly t r a out count p table-bytes bytes room = (
 )
 
 -- the plaintext that sealing by a row made r of
-undone : (t name iv a p r : List ℕ) → Bytes t → (s : SealedAs t name iv a p r) → plaintextBy (rowKey (s .able .found-row)) r ≡ p
+undone : (t name iv a p r : List ℕ) → Bytes t → (s : SealedAs t name iv a p r) → plaintextBy (s .able .found-row .rowKey) r ≡ p
 undone t name iv a p r bytes s =
-    plaintext-back (useOf (s .able .found-row)) (rowKey (s .able .found-row)) name iv a p r (as-keyed t name iv a p r bytes s) (s .able .permitted) (s .bytes)
+    plaintext-back (s .able .found-row .rowUse) (s .able .found-row .rowKey) name iv a p r (as-keyed t name iv a p r bytes s) (s .able .permitted) (s .bytes)
     (as-laid t name iv a p r bytes s)
 
 pub one-plaintext : OnePlaintext
 one-plaintext t name iv a p p′ r table-bytes bytes h h′ =
-    sym (undone t name iv a p r table-bytes s) ∙ ap (λ (row : List ℕ). plaintextBy (rowKey row) r) same-row ∙ undone t name iv a p′ r table-bytes s′
+    sym (undone t name iv a p r table-bytes s) ∙ ap (λ (row : Row). plaintextBy (row .rowKey) r) same-row ∙ undone t name iv a p′ r table-bytes s′
   where
     s : SealedAs t name iv a p r
     s = seals-as t name iv a p r table-bytes bytes h
@@ -71,8 +72,8 @@ else-refuses t r a out count table-bytes bytes none = go (eqb number 0) refl
     not-zero : number ≡ 0 → ⊥
     not-zero e =
         let (row, has, able) = opened-row t r a out count (open-number t r a out count ∙ e) in
-        let opened : OpenedAs t r a out (plaintextBy (rowKey row) r) = record { row = row; has-row = has; able = able; is = refl } in
-        none (plaintextBy (rowKey row) r) (as-seals t (nameIn r) (ivIn r) a _ r table-bytes (opened-sealed t r a out _ table-bytes bytes opened))
+        let opened : OpenedAs t r a out (plaintextBy (row .rowKey) r) = record { row = row; has-row = has; able = able; is = refl } in
+        none (plaintextBy (row .rowKey) r) (as-seals t (nameIn r) (ivIn r) a _ r table-bytes (opened-sealed t r a out _ table-bytes bytes opened))
 
     go : (b : Bool) → eqb number 0 ≡ b → Refuses t r a out count
     go true e = absurd (not-zero (eqb-true number 0 e))
@@ -86,10 +87,10 @@ sealed-opens t name iv a p r out count table-bytes bytes h room =
     s = seals-as t name iv a p r table-bytes bytes h
 
     u : ℕ
-    u = useOf (s .able .found-row)
+    u = s .able .found-row .rowUse
 
     key : List ℕ
-    key = rowKey (s .able .found-row)
+    key = s .able .found-row .rowKey
 
     read : Laid u name (length p) iv (textBy u key iv p) (tagBy u key name iv a p) r
     read = as-laid t name iv a p r table-bytes s
@@ -109,6 +110,14 @@ seal-other-rows t u name iv a p out ok-t ok-u e = rw (ok-t, ok-u, e)
 
 pub open-other-rows : OpenOtherRows
 open-other-rows t u r a out count ok-t ok-u e = rw (ok-t, ok-u, e)
+
+pub seal-beside-kek : SealBesideKek
+seal-beside-kek t u row name iv a p out ok-t ok-u more kek =
+    seal-other-rows u t name iv a p out ok-u ok-t (kek-row-more t u row name ok-u more kek)
+
+pub open-beside-kek : OpenBesideKek
+open-beside-kek t u row r a out count ok-t ok-u more kek =
+    open-other-rows u t r a out count ok-u ok-t (kek-row-more t u row (nameIn r) ok-u more kek)
 
 -- ---- one answer
 

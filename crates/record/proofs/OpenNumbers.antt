@@ -8,7 +8,7 @@ use Prim.Native.Nat.{ℕ}
 use lib.Dec.{eqb, ltb}
 use lib.ListN.{length}
 use Rattle.octets.specs.Lent.{over}
-use Rattle.keytable.specs.Row.{useOf, rowKey}
+use Rattle.keytable.specs.Row.{Row}
 use Rattle.modes.specs.Modes.{namesMode}
 use Rattle.record.specs.Record.{modeIn, countIn, nameSize, layoutOk}
 use Rattle.record.specs.Open.{authenticBy, plaintextBy, openNumber, openRow}
@@ -22,7 +22,7 @@ pub record OpenMeasured (ok : Bool) (r a : List ℕ) (room : ℕ) : Type 0 where
   pub maxima : tooLong (nameSize r) (countIn r) a ≡ false
   pub fits : ltb room (countIn r) ≡ false
 
-module _ (ok : Bool) (row : Option (List ℕ)) (r a out : List ℕ) (count : ℕ) where
+module _ (ok : Bool) (row : Option Row) (r a out : List ℕ) (count : ℕ) where
   pub open-one : ok ≡ false → openRow ok row r a out count ≡ ((1, out), count)
   unfolding openRow openNumber
   open-one e = rw e
@@ -50,16 +50,16 @@ module _ (ok : Bool) (row : Option (List ℕ)) (r a out : List ℕ) (count : ℕ
     unfolding openRow openNumber
     open-six e = rw (m .accepted, m .layout, m .mode-ok, m .maxima, m .fits, e)
 
-    module _ (found : List ℕ) (has : row ≡ some found) where
-      pub open-seven : eqb (useOf found) (modeIn r) ≡ false → openRow ok row r a out count ≡ ((7, out), count)
+    module _ (found : Row) (has : row ≡ some found) where
+      pub open-seven : eqb (found .rowUse) (modeIn r) ≡ false → openRow ok row r a out count ≡ ((7, out), count)
       unfolding openRow openNumber
       open-seven e = rw (m .accepted, m .layout, m .mode-ok, m .maxima, m .fits, has, e)
 
-      module _ (same-use : eqb (useOf found) (modeIn r) ≡ true) where
-        pub open-nine : authenticBy (rowKey found) r a ≡ false → openRow ok row r a out count ≡ ((9, out), count)
+      module _ (same-use : eqb (found .rowUse) (modeIn r) ≡ true) where
+        pub open-nine : authenticBy (found .rowKey) r a ≡ false → openRow ok row r a out count ≡ ((9, out), count)
         unfolding openRow openNumber
         open-nine e = rw (m .accepted, m .layout, m .mode-ok, m .maxima, m .fits, has, same-use, e)
 
-        pub open-zero : authenticBy (rowKey found) r a ≡ true → openRow ok row r a out count ≡ ((0, over (plaintextBy (rowKey found) r) out), countIn r)
+        pub open-zero : authenticBy (found .rowKey) r a ≡ true → openRow ok row r a out count ≡ ((0, over (plaintextBy (found .rowKey) r) out), countIn r)
         unfolding openRow openNumber
         open-zero e = rw (m .accepted, m .layout, m .mode-ok, m .maxima, m .fits, has, same-use, e)

@@ -11,7 +11,7 @@ use lib.Dec.{eqb}
 use lib.ListN.{length}
 use Rattle.octets.specs.Bytes.{Bytes}
 use Rattle.octets.specs.Lent.{over}
-use Rattle.keytable.specs.Row.{nameMax, useOf, rowKey}
+use Rattle.keytable.specs.Row.{nameMax, Row}
 use Rattle.keytable.specs.Table.{tableOk, dataRow}
 use Rattle.modes.specs.Calls.{textMax}
 use Rattle.modes.specs.Modes.{namesMode, modeOf}
@@ -29,7 +29,7 @@ use Rattle.record.proofs.Sealed.{row-keyed}
 -- ---- the tests
 
 -- every test of opening by a row is passed
-pub record Openable (ok : Bool) (row r a : List ℕ) (room : ℕ) : Type 0 where
+pub record Openable (ok : Bool) (row : Row) (r a : List ℕ) (room : ℕ) : Type 0 where
   pub accepted : ok ≡ true
   pub layout : layoutOk r ≡ true
   pub mode : namesMode (modeIn r) ≡ true
@@ -37,19 +37,19 @@ pub record Openable (ok : Bool) (row r a : List ℕ) (room : ℕ) : Type 0 where
   pub few : countIn r ≤ textMax
   pub little : length a ≤ callersMax
   pub fits : countIn r ≤ room
-  pub use-is : useOf row ≡ modeIn r
-  pub authentic : authenticBy (rowKey row) r a ≡ true
+  pub use-is : row .rowUse ≡ modeIn r
+  pub authentic : authenticBy (row .rowKey) r a ≡ true
 
 module _ (ok : Bool) (r a : List ℕ) (room : ℕ) where
-  no-test : (row : Option (List ℕ)) (i : ℕ) → openNumber ok row r a room ≡ 0 → testAt (openTests ok row r a room) i ≡ false
+  no-test : (row : Option Row) (i : ℕ) → openNumber ok row r a room ≡ 0 → testAt (openTests ok row r a room) i ≡ false
   unfolding openNumber
   no-test row i e = none-applies (openTests ok row r a room) i refl e
 
-  pub open-row : (o : Option (List ℕ)) → openNumber ok o r a room ≡ 0 → (row : List ℕ) × (o ≡ some row)
+  pub open-row : (o : Option Row) → openNumber ok o r a room ≡ 0 → (row : Row) × (o ≡ some row)
   open-row none e = absurd (false≢true (sym (no-test none 5 e)))
   open-row (some row) e = (row, refl)
 
-  pub openable : (row : List ℕ) → openNumber ok (some row) r a room ≡ 0 → Openable ok row r a room
+  pub openable : (row : Row) → openNumber ok (some row) r a room ≡ 0 → Openable ok row r a room
   openable row e =
       record {
         accepted = not-false ok (no 0);
@@ -59,8 +59,8 @@ module _ (ok : Bool) (r a : List ℕ) (room : ℕ) where
         few = maxima .1;
         little = maxima .2;
         fits = ltb-false room (countIn r) (no 4);
-        use-is = eqb-true (useOf row) (modeIn r) (not-false (eqb (useOf row) (modeIn r)) (no 6));
-        authentic = not-false (authenticBy (rowKey row) r a) (no 7);
+        use-is = eqb-true (row .rowUse) (modeIn r) (not-false (eqb (row .rowUse) (modeIn r)) (no 6));
+        authentic = not-false (authenticBy (row .rowKey) r a) (no 7);
       }
     where
       no : (i : ℕ) → testAt (openTests ok (some row) r a room) i ≡ false
@@ -69,7 +69,7 @@ module _ (ok : Bool) (r a : List ℕ) (room : ℕ) where
       maxima : (nameSize r ≤ nameMax) × (countIn r ≤ textMax) × (length a ≤ callersMax)
       maxima = within-maxima (nameSize r) (countIn r) a (no 3)
 
-  pub open-passed : (row : List ℕ) → Openable ok row r a room → openNumber ok (some row) r a room ≡ 0
+  pub open-passed : (row : Row) → Openable ok row r a room → openNumber ok (some row) r a room ≡ 0
   unfolding openNumber
   open-passed row h =
       rw (
@@ -78,12 +78,12 @@ module _ (ok : Bool) (r a : List ℕ) (room : ℕ) where
         h .mode,
         maxima-kept (nameSize r) (countIn r) a (h .short) (h .few) (h .little),
         le-ltb room (countIn r) (h .fits),
-        eq-eqb (useOf row) (modeIn r) (h .use-is),
+        eq-eqb (row .rowUse) (modeIn r) (h .use-is),
         h .authentic,
       )
 
 -- any other number changes neither the output nor the count
-pub open-refused : (ok : Bool) (row : Option (List ℕ)) (r a out : List ℕ) (count : ℕ) → eqb (openNumber ok row r a (length out)) 0 ≡ false
+pub open-refused : (ok : Bool) (row : Option Row) (r a out : List ℕ) (count : ℕ) → eqb (openNumber ok row r a (length out)) 0 ≡ false
     → openRow ok row r a out count ≡ ((openNumber ok row r a (length out), out), count)
 unfolding openRow
 open-refused ok row r a out count e = rw e
@@ -96,10 +96,10 @@ length-plaintextBy key r keyed layout =
     modes-fitting (modeIn r) .plaintext-length key (ivIn r) (textIn r) keyed (permits-textIn r layout) ∙ length-textIn r layout
 
 -- the row's key and the record's IV
-pub open-keyed : (t r a row : List ℕ) (room : ℕ) → Bytes t → Bytes r → dataRow t (nameIn r) ≡ some row → Openable (tableOk t) row r a room
-    → Keyed (modeFor r) (rowKey row) (ivIn r)
+pub open-keyed : (t r a : List ℕ) (row : Row) (room : ℕ) → Bytes t → Bytes r → dataRow t (nameIn r) ≡ some row → Openable (tableOk t) row r a room
+    → Keyed (modeFor r) (row .rowKey) (ivIn r)
 open-keyed t r a row room table-bytes bytes has h =
-    subst (λ (u : ℕ). Keyed (modeOf u) (rowKey row) (ivIn r)) (h .use-is)
+    subst (λ (u : ℕ). Keyed (modeOf u) (row .rowKey) (ivIn r)) (h .use-is)
     (row-keyed t (nameIn r) row (ivIn r) table-bytes (bytes-ivIn r bytes) (h .accepted) has
     (length-ivIn r (h .layout) ∙ ap (λ (u : ℕ). modeOf u .ivSize) (sym (h .use-is))))
 
@@ -107,14 +107,14 @@ open-keyed t r a row room table-bytes bytes has h =
 
 -- opening gives p: over its definitions
 pub record OpenedAs (t r a out p : List ℕ) : Type 0 where
-  pub row : List ℕ
+  pub row : Row
   pub has-row : dataRow t (nameIn r) ≡ some row
   pub able : Openable (tableOk t) row r a (length out)
-  pub is : plaintextBy (rowKey row) r ≡ p
+  pub is : plaintextBy (row .rowKey) r ≡ p
 
 module _ (t r a out : List ℕ) (count : ℕ) where
-  pub open-done : (row : List ℕ) → dataRow t (nameIn r) ≡ some row → Openable (tableOk t) row r a (length out)
-      → openAnswer t r a out count ≡ ((0, over (plaintextBy (rowKey row) r) out), countIn r)
+  pub open-done : (row : Row) → dataRow t (nameIn r) ≡ some row → Openable (tableOk t) row r a (length out)
+      → openAnswer t r a out count ≡ ((0, over (plaintextBy (row .rowKey) r) out), countIn r)
   unfolding openRow
   open-done row is h = rw (is, open-passed (tableOk t) r a (length out) row h)
 
@@ -123,7 +123,7 @@ module _ (t r a out : List ℕ) (count : ℕ) where
   open-number = refl
 
   -- 0 came of a row by which every test is passed
-  pub opened-row : openAnswer t r a out count .0 .0 ≡ 0 → (row : List ℕ) × (dataRow t (nameIn r) ≡ some row) × Openable (tableOk t) row r a (length out)
+  pub opened-row : openAnswer t r a out count .0 .0 ≡ 0 → (row : Row) × (dataRow t (nameIn r) ≡ some row) × Openable (tableOk t) row r a (length out)
   opened-row e =
       let number = sym open-number ∙ e in
       let (row, has) = open-row (tableOk t) r a (length out) (dataRow t (nameIn r)) number in
@@ -146,8 +146,8 @@ module _ (t r a out : List ℕ) (count : ℕ) where
           has-row = has;
           able = able;
           is =
-              over-injective (plaintextBy (rowKey row) r) p out
-              (length-plaintextBy (rowKey row) r (open-keyed t r a row (length out) table-bytes bytes has able) (able .layout) ∙ size) fits
+              over-injective (plaintextBy (row .rowKey) r) p out
+              (length-plaintextBy (row .rowKey) r (open-keyed t r a row (length out) table-bytes bytes has able) (able .layout) ∙ size) fits
               (ap (λ (x : (ℕ × List ℕ) × ℕ). x .0 .1) (sym (open-done row has able) ∙ h .answers));
         }
 
@@ -156,5 +156,5 @@ module _ (t r a out : List ℕ) (count : ℕ) where
       where
         size : countIn r ≡ length p
         size =
-            sym (length-plaintextBy (rowKey (h .row)) r (open-keyed t r a (h .row) (length out) table-bytes bytes (h .has-row) (h .able)) (h .able .layout))
+            sym (length-plaintextBy (h .row .rowKey) r (open-keyed t r a (h .row) (length out) table-bytes bytes (h .has-row) (h .able)) (h .able .layout))
             ∙ ap length (h .is)

@@ -8,6 +8,7 @@ use Prim.Native.Nat.{ℕ}
 use borrow.Author.Tests.{not-false}
 use lib.ListN.{getD}
 use Rattle.octets.proofs.Lent.{testAt, none-applies}
+use Rattle.keytable.specs.Row.{Row}
 use Rattle.modes.specs.Modes.{namesMode}
 use Rattle.record.specs.Record.{modeIn, countIn, nameSize, layoutOk}
 use Rattle.record.specs.Read.{passes, headerTests, headerNumber, headerSays, headerAnswer}
@@ -72,7 +73,7 @@ header-accepted r u k n e =
 
 -- ---- a record that reading refuses, opened
 
-pub open-unread : (row : Option (List ℕ)) (r a out : List ℕ) (count : ℕ) (h : Header) → headerSays h ≡ headerAnswer r → (headerSays h .0 ≡ 0 → ⊥)
+pub open-unread : (row : Option Row) (r a out : List ℕ) (count : ℕ) (h : Header) → headerSays h ≡ headerAnswer r → (headerSays h .0 ≡ 0 → ⊥)
     → openRow true row r a out count ≡ ((headerSays h .0, out), count)
 unfolding headerNumber
 open-unread row r a out count h e never = go (layoutOk r) (namesMode (modeIn r)) (passes (nameSize r) (countIn r)) refl refl refl

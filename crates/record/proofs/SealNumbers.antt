@@ -8,24 +8,25 @@ use Prim.Native.Nat.{ℕ}
 use lib.Dec.{eqb, ltb}
 use lib.ListN.{length}
 use Rattle.octets.specs.Lent.{isNot, lowest}
+use Rattle.keytable.specs.Row.{Row}
 use Rattle.keytable.specs.Calls.{missing, useIn}
-use Rattle.modes.specs.Modes.{namesMode, modeOf}
+use Rattle.modes.specs.Modes.{modeOf}
 use Rattle.modes.proofs.Laws.{modes-permit}
 use Rattle.record.specs.Seal.{sealedSize, sealNumber, readyBy}
 use Rattle.record.proofs.Lengths.{tooLong}
 
 -- no name, or an IV of another length than that of the row's use
-abbrev pub wrongLength : Option (List ℕ) → List ℕ → List ℕ → Bool
+abbrev pub wrongLength : Option Row → List ℕ → List ℕ → Bool
 wrongLength row name iv = eqb (length name) 0 || isNot (modeOf (useIn row) .ivSize) iv
 
 -- the tests before the row's own are passed
-pub record SealMeasured (ok : Bool) (row : Option (List ℕ)) (name iv a : List ℕ) (n room : ℕ) : Type 0 where
+pub record SealMeasured (ok : Bool) (row : Option Row) (name iv a : List ℕ) (n room : ℕ) : Type 0 where
   pub accepted : ok ≡ true
   pub lengths : wrongLength row name iv ≡ false
   pub maxima : tooLong (length name) n a ≡ false
   pub fits : ltb room (sealedSize row name n) ≡ false
 
-module _ (ok : Bool) (row : Option (List ℕ)) (name iv a : List ℕ) (n room : ℕ) where
+module _ (ok : Bool) (row : Option Row) (name iv a : List ℕ) (n room : ℕ) where
   -- both modes permit every count
   seal-numbers : sealNumber ok row name iv a n room
       ≡ lowest
@@ -34,7 +35,6 @@ module _ (ok : Bool) (row : Option (List ℕ)) (name iv a : List ℕ) (n room : 
       ∷ (4, tooLong (length name) n a)
       ∷ (5, ltb room (sealedSize row name n))
       ∷ (6, missing row)
-      ∷ (7, not (namesMode (useIn row)))
       ∷ [])
   unfolding sealNumber
   seal-numbers = rw (modes-permit (useIn row) n, or-false (wrongLength row name iv))
@@ -61,11 +61,6 @@ module _ (ok : Bool) (row : Option (List ℕ)) (name iv a : List ℕ) (n room : 
     unfolding readyBy
     ready-six e = rw (seal-numbers, m .accepted, m .lengths, m .maxima, m .fits, e)
 
-    module _ (found : List ℕ) (has : row ≡ some found) where
-      pub ready-seven : namesMode (useIn row) ≡ false → readyBy ok row name iv a n room ≡ (7, none)
-      unfolding readyBy
-      ready-seven e = rw (seal-numbers, m .accepted, m .lengths, m .maxima, m .fits, e, has)
-
-      pub ready-zero : namesMode (useIn row) ≡ true → readyBy ok row name iv a n room ≡ (0, some found)
-      unfolding readyBy
-      ready-zero e = rw (seal-numbers, m .accepted, m .lengths, m .maxima, m .fits, e, has)
+    pub ready-zero : (found : Row) → row ≡ some found → readyBy ok row name iv a n room ≡ (0, some found)
+    unfolding readyBy
+    ready-zero found has = rw (seal-numbers, m .accepted, m .lengths, m .maxima, m .fits, has)

@@ -9,19 +9,20 @@ use borrow.Author.Tests.{ne-eqb}
 use lib.ListN.{length}
 use Rattle.octets.specs.Lent.{over}
 use Rattle.octets.proofs.Lent.{answer-refused}
+use Rattle.keytable.specs.Row.{Row}
 use Rattle.keytable.specs.Calls.{missing}
 use Rattle.record.specs.Seal.{recordBy, sealNumber, readyBy, sealRow}
 use Rattle.octets.proofs.Lent.{answer-done}
 use Rattle.record.specs.Laws.{SealInRange}
 use Rattle.record.proofs.Sealed.{in-range}
 
-module _ (ok : Bool) (row : Option (List ℕ)) (name iv a : List ℕ) (size room : ℕ) where
-  ready-told : (n : ℕ) (o : Option (List ℕ)) → readyBy ok row name iv a size room ≡ (n, o) → (sealNumber ok row name iv a size room ≡ n) × (n ≡ 0 → row ≡ o)
+module _ (ok : Bool) (row : Option Row) (name iv a : List ℕ) (size room : ℕ) where
+  ready-told : (n : ℕ) (o : Option Row) → readyBy ok row name iv a size room ≡ (n, o) → (sealNumber ok row name iv a size room ≡ n) × (n ≡ 0 → row ≡ o)
   unfolding readyBy
-  ready-told n o e = (number, λ z. rw (number, z) at (ap (λ (x : ℕ × Option (List ℕ)). x .1) e))
+  ready-told n o e = (number, λ z. rw (number, z) at (ap (λ (x : ℕ × Option Row). x .1) e))
     where
       number : sealNumber ok row name iv a size room ≡ n
-      number = ap (λ (x : ℕ × Option (List ℕ)). x .0) e
+      number = ap (λ (x : ℕ × Option Row). x .0) e
 
   -- refused: the number is not 0
   pub ready-refused : (n : ℕ) → readyBy ok row name iv a size room ≡ (n, none) → (sealNumber ok row name iv a size room ≡ n) × (n ≡ 0 → ⊥)
@@ -32,7 +33,7 @@ module _ (ok : Bool) (row : Option (List ℕ)) (name iv a : List ℕ) (size room
       )
 
   -- found: the row, and no test applies
-  module _ (found : List ℕ) (e : readyBy ok row name iv a size room ≡ (0, some found)) where
+  module _ (found : Row) (e : readyBy ok row name iv a size room ≡ (0, some found)) where
     pub ready-number : sealNumber ok row name iv a size room ≡ 0
     ready-number = ready-told 0 (some found) e .0
 
@@ -47,14 +48,14 @@ module _ (ok : Bool) (row : Option (List ℕ)) (name iv a : List ℕ) (size room
 
 -- ---- sealing, by what its tests found
 
-module _ (ok : Bool) (row : Option (List ℕ)) (name iv a p out : List ℕ) where
+module _ (ok : Bool) (row : Option Row) (name iv a p out : List ℕ) where
   pub seal-refused : (n : ℕ) → readyBy ok row name iv a (length p) (length out) ≡ (n, none) → sealRow ok row name iv a p out ≡ (n, out)
   unfolding sealRow
   seal-refused n e =
       let (number, not-zero) = ready-refused ok row name iv a (length p) (length out) n e in
       rw number (answer-refused n (recordBy row name iv a p) out (ne-eqb n 0 not-zero))
 
-  pub seal-written : (found left : List ℕ) → readyBy ok row name iv a (length p) (length out) ≡ (0, some found) → left ≡ over (recordBy row name iv a p) out
+  pub seal-written : (found : Row) (left : List ℕ) → readyBy ok row name iv a (length p) (length out) ≡ (0, some found) → left ≡ over (recordBy row name iv a p) out
       → sealRow ok row name iv a p out ≡ (0, left)
   unfolding sealRow
   seal-written found left e is =

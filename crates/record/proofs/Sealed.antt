@@ -6,7 +6,7 @@ use mathlib.Core.List.{List, _++_, append-assoc}
 use mathlib.Core.Option.{Option, some, none}
 use Prim.Native.Nat.{ℕ, _+_, _≤_}
 use native.Mathlib.Omega.{arith}
-use borrow.Author.Tests.{eqb-false, ne-eqb, ltb-false, le-ltb, not-false}
+use borrow.Author.Tests.{eqb-false, eq-eqb, ne-eqb, ltb-false, le-ltb, not-false}
 use lib.Dec.{eqb}
 use lib.ListN.{length, take, drop, replicate, length-replicate, length-append}
 use Rattle.octets.specs.Bytes.{Bytes}
@@ -15,18 +15,19 @@ use Rattle.octets.proofs.Lent.{testAt, none-applies, answer-done, isNot-false, 
 use Rattle.octets.specs.Tests.{partOf}
 use Rattle.octets.proofs.Tests.{or-left, or-right, part-at}
 use Rattle.octets.proofs.Bytes.{bytes-take, bytes-drop}
-use Rattle.keytable.specs.Row.{nameMax, useOf, rowKey}
+use Rattle.keytable.specs.Row.{nameMax, kekUse, dataType, Row}
 use Rattle.keytable.specs.Table.{tableOk, dataRow}
-use Rattle.keytable.proofs.Laws.{rowFor-good}
+use Rattle.keytable.specs.Laws.{GoodRow}
+use Rattle.keytable.proofs.Laws.{rowFor-good, kek-by-type}
 use Rattle.keytable.proofs.RowFound.{row-key-bytes}
 use Rattle.modes.specs.Calls.{textMax}
-use Rattle.modes.specs.Modes.{namesMode, modeOf}
+use Rattle.modes.specs.Modes.{modeOf}
 use Rattle.modes.specs.Laws.{Keyed}
 use Rattle.modes.proofs.Laws.{modes-fitting}
 use Rattle.record.specs.Record.{endAt, recordFront}
 use Rattle.record.specs.Seal.{callersMax, recordOf, sealedSize, sealTests, sealNumber, sealRow, sealAnswer}
 use Rattle.record.specs.Demand3.{Seals}
-use Rattle.record.specs.Laws.{SealInRange, SealsInRange, SealsOnlyInRange}
+use Rattle.record.specs.Laws.{SealInRange, SealsInRange, SealsOnlyInRange, DataRowMode}
 use Rattle.record.proofs.Lengths.{key-size, within-maxima, maxima-kept}
 use Rattle.record.proofs.Written.{length-front}
 use Rattle.record.proofs.Laid.{laid, Laid, length-laid, laid-out}
@@ -34,18 +35,17 @@ use Rattle.record.proofs.Laid.{laid, Laid, length-laid, laid-out}
 -- ---- the tests
 
 module _ (ok : Bool) (name iv a : List ℕ) (n room : ℕ) where
-  no-test : (row : Option (List ℕ)) (i : ℕ) → sealNumber ok row name iv a n room ≡ 0 → testAt (sealTests ok row name iv a n room) i ≡ false
+  no-test : (row : Option Row) (i : ℕ) → sealNumber ok row name iv a n room ≡ 0 → testAt (sealTests ok row name iv a n room) i ≡ false
   unfolding sealNumber
   no-test row i e = none-applies (sealTests ok row name iv a n room) i refl e
 
-  pub in-range : (o : Option (List ℕ)) → sealNumber ok o name iv a n room ≡ 0 → SealInRange ok o name iv a n room
+  pub in-range : (o : Option Row) → sealNumber ok o name iv a n room ≡ 0 → SealInRange ok o name iv a n room
   in-range none e = absurd (false≢true (sym (no-test none 4 e)))
   in-range (some row) e =
       record {
         accepted = not-false ok (no 0);
         found-row = row;
         found-is = refl;
-        names-mode = not-false (namesMode u) (no 5);
         name-given = omega (arith, eqb-false (length name) 0 (or-left (eqb (length name) 0) (isNot (modeOf u .ivSize) iv) sizes));
         iv-size = isNot-false (modeOf u .ivSize) iv (or-right (eqb (length name) 0) (isNot (modeOf u .ivSize) iv) sizes);
         permitted = not-false (modeOf u .permits n) (or-right (eqb (length name) 0 || isNot (modeOf u .ivSize) iv) (not (modeOf u .permits n)) (no 1));
@@ -56,7 +56,7 @@ module _ (ok : Bool) (name iv a : List ℕ) (n room : ℕ) where
       }
     where
       u : ℕ
-      u = useOf row
+      u = row .rowUse
 
       no : (i : ℕ) → testAt (sealTests ok (some row) name iv a n room) i ≡ false
       no i = no-test (some row) i e
@@ -67,29 +67,27 @@ module _ (ok : Bool) (name iv a : List ℕ) (n room : ℕ) where
       maxima : (length name ≤ nameMax) × (n ≤ textMax) × (length a ≤ callersMax)
       maxima = within-maxima (length name) n a (no 2)
 
-  pub seal-passed : (o : Option (List ℕ)) → SealInRange ok o name iv a n room → sealNumber ok o name iv a n room ≡ 0
+  pub seal-passed : (o : Option Row) → SealInRange ok o name iv a n room → sealNumber ok o name iv a n room ≡ 0
   unfolding sealNumber
   seal-passed o h =
       rw (
         h .accepted,
         h .found-is,
         ne-eqb (length name) 0 (λ e. omega (arith, h .name-given, e)),
-        isNot-right (modeOf (useOf (h .found-row)) .ivSize) iv (h .iv-size),
+        isNot-right (modeOf (h .found-row .rowUse) .ivSize) iv (h .iv-size),
         h .permitted,
         maxima-kept (length name) n a (h .name-fits) (h .text-fits) (h .data-fits),
         le-ltb room (sealedSize (some (h .found-row)) name n) (h .room-fits),
-        h .names-mode,
       )
 
 -- with other room
-abbrev pub with-room : {ok : Bool} {o : Option (List ℕ)} {name iv a : List ℕ} {n room : ℕ} (h : SealInRange ok o name iv a n room) (room′ : ℕ)
+abbrev pub with-room : {ok : Bool} {o : Option Row} {name iv a : List ℕ} {n room : ℕ} (h : SealInRange ok o name iv a n room) (room′ : ℕ)
     → sealedSize (some (h .found-row)) name n ≤ room′ → SealInRange ok o name iv a n room′
 with-room h room′ fits =
     record {
       accepted = h .accepted;
       found-row = h .found-row;
       found-is = h .found-is;
-      names-mode = h .names-mode;
       name-given = h .name-given;
       iv-size = h .iv-size;
       permitted = h .permitted;
@@ -104,7 +102,7 @@ with-room h room′ fits =
 pub seals-in-range : SealsInRange
 unfolding sealRow
 seals-in-range t name iv a p out h =
-    ap (λ (o : Option (List ℕ)). sealRow (tableOk t) o name iv a p out) (h .found-is)
+    ap (λ (o : Option Row). sealRow (tableOk t) o name iv a p out) (h .found-is)
     ∙ answer-done _ _ out (rw (h .found-is) at (seal-passed (tableOk t) name iv a (length p) (length out) (dataRow t name) h))
 
 pub seals-only-in-range : SealsOnlyInRange
@@ -136,13 +134,27 @@ module _ (u : ℕ) (key name iv a p : List ℕ) (keyed : Keyed (modeOf u) key iv
       ap length (sym (recordOf-laid u key name iv a p))
       ∙ length-laid u name (length p) iv (textBy u key iv p) (tagBy u key name iv a p) (keyed .iv-size) length-textBy length-tagBy
 
+-- the row that records look for is no key-encrypting key's: its use is a mode
+pub data-row-mode : DataRowMode
+data-row-mode t name row ok has = go (eqb (row .rowUse) 1) refl
+  where
+    good : GoodRow dataType name row
+    good = rowFor-good t dataType name row ok has
+
+    not-kek : row .rowUse ≡ kekUse → ⊥
+    not-kek e = false≢true (kek-by-type dataType name row good .0 e)
+
+    go : (b : Bool) → eqb (row .rowUse) 1 ≡ b → (b || eqb (row .rowUse) 2) ≡ true
+    go true e = refl
+    go false e = eq-eqb (row .rowUse) 2 (omega (arith, not-kek, eqb-false (row .rowUse) 1 e, good .use-low, good .use-high))
+
 -- a row's key, and an IV of the length of its use's mode
-pub row-keyed : (t name row iv : List ℕ) → Bytes t → Bytes iv → tableOk t ≡ true → dataRow t name ≡ some row → length iv ≡ modeOf (useOf row) .ivSize
-    → Keyed (modeOf (useOf row)) (rowKey row) iv
+pub row-keyed : (t name : List ℕ) (row : Row) (iv : List ℕ) → Bytes t → Bytes iv → tableOk t ≡ true → dataRow t name ≡ some row → length iv ≡ modeOf (row .rowUse) .ivSize
+    → Keyed (modeOf (row .rowUse)) (row .rowKey) iv
 row-keyed t name row iv bytes iv-bytes ok has size =
     record {
-      key-size = rowFor-good t name row ok has .key-size ∙ sym (key-size (useOf row));
-      key-bytes = row-key-bytes t name row bytes has;
+      key-size = rowFor-good t dataType name row ok has .key-size ∙ sym (key-size (row .rowUse));
+      key-bytes = row-key-bytes t dataType name row bytes has;
       iv-size = size;
       iv-bytes = iv-bytes;
     }
@@ -153,7 +165,7 @@ pub record SealedAs (t name iv a p r : List ℕ) : Type 0 where
   pub bytes : Bytes p
   pub iv-bytes : Bytes iv
   pub able : SealInRange (tableOk t) (dataRow t name) name iv a (length p) (sealedSize (dataRow t name) name (length p))
-  pub is : recordOf (useOf (able .found-row)) (rowKey (able .found-row)) name iv a p ≡ r
+  pub is : recordOf (able .found-row .rowUse) (able .found-row .rowKey) name iv a p ≡ r
 
 -- the IV of bytes that begin with a front and the IV
 front-iv-bytes : (F iv S out r : List ℕ) → length F + length iv ≤ length out → over (F ++ (iv ++ S)) out ≡ r → Bytes r → Bytes iv
@@ -173,7 +185,7 @@ front-iv-bytes F iv S out r fits e bytes = rw is at (bytes-take (length iv) (byt
     is = ap (λ (l : List ℕ). partOf l (length F) (length iv)) (sym whole) ∙ part-at F iv rest (length F) (length iv) refl refl
 
 module _ (t name iv a p r : List ℕ) (table-bytes : Bytes t) where
-  pub as-keyed : (h : SealedAs t name iv a p r) → Keyed (modeOf (useOf (h .able .found-row))) (rowKey (h .able .found-row)) iv
+  pub as-keyed : (h : SealedAs t name iv a p r) → Keyed (modeOf (h .able .found-row .rowUse)) (h .able .found-row .rowKey) iv
   as-keyed h = row-keyed t name (h .able .found-row) iv table-bytes (h .iv-bytes) (h .able .accepted) (h .able .found-is) (h .able .iv-size)
 
   pub seals-as : Bytes r → Seals t name iv a p r → SealedAs t name iv a p r
@@ -190,16 +202,16 @@ module _ (t name iv a p r : List ℕ) (table-bytes : Bytes t) where
       length-out = length-replicate size 0
 
       answered : sealAnswer t name iv a p out ≡ (0, r)
-      answered = h .makes out (length-out ∙ ap (λ (o : Option (List ℕ)). sealedSize o name (length p)) (h .has-row))
+      answered = h .makes out (length-out ∙ ap (λ (o : Option Row). sealedSize o name (length p)) (h .has-row))
 
       inside : SealInRange (tableOk t) (dataRow t name) name iv a (length p) (length out)
       inside = seals-only-in-range t name iv a p out (ap (λ (x : ℕ × List ℕ). x .0) answered)
 
       u : ℕ
-      u = useOf (inside .found-row)
+      u = inside .found-row .rowUse
 
       key : List ℕ
-      key = rowKey (inside .found-row)
+      key = inside .found-row .rowKey
 
       written : over (recordOf u key name iv a p) out ≡ r
       written = ap (λ (x : ℕ × List ℕ). x .1) (sym (seals-in-range t name iv a p out inside) ∙ answered)
@@ -214,7 +226,7 @@ module _ (t name iv a p r : List ℕ) (table-bytes : Bytes t) where
       whole : length (recordOf u key name iv a p) ≡ length out
       whole =
           length-recordOf u key name iv a p keyed (inside .permitted)
-          ∙ ap (λ (o : Option (List ℕ)). sealedSize o name (length p)) (sym (inside .found-is))
+          ∙ ap (λ (o : Option Row). sealedSize o name (length p)) (sym (inside .found-is))
           ∙ sym length-out
 
       able : SealInRange (tableOk t) (dataRow t name) name iv a (length p) size
@@ -230,21 +242,21 @@ module _ (t name iv a p r : List ℕ) (table-bytes : Bytes t) where
       makes out size =
           seals-in-range t name iv a p out (with-room (h .able) (length out) (omega arith))
           ∙ ap (λ (l : List ℕ). (0, l))
-          (over-whole _ out (length-recordOf (useOf (h .able .found-row)) (rowKey (h .able .found-row)) name iv a p (as-keyed h) (h .able .permitted) ∙ sym size) ∙ h .is)
+          (over-whole _ out (length-recordOf (h .able .found-row .rowUse) (h .able .found-row .rowKey) name iv a p (as-keyed h) (h .able .permitted) ∙ sym size) ∙ h .is)
 
   -- and what is read from r
   pub as-laid : (h : SealedAs t name iv a p r)
-      → let u = useOf (h .able .found-row) in let key = rowKey (h .able .found-row) in Laid u name (length p) iv (textBy u key iv p) (tagBy u key name iv a p) r
+      → let u = h .able .found-row .rowUse in let key = h .able .found-row .rowKey in Laid u name (length p) iv (textBy u key iv p) (tagBy u key name iv a p) r
   as-laid h =
       laid-out u name (length p) iv (textBy u key iv p) (tagBy u key name iv a p) (h .able .iv-size) (length-textBy u key name iv a p keyed (h .able .permitted))
       (length-tagBy u key name iv a p keyed (h .able .permitted)) (h .able .name-given) (h .able .permitted) (h .able .name-fits) (h .able .text-fits) r
       (recordOf-laid u key name iv a p ∙ h .is)
     where
       u : ℕ
-      u = useOf (h .able .found-row)
+      u = h .able .found-row .rowUse
 
       key : List ℕ
-      key = rowKey (h .able .found-row)
+      key = h .able .found-row .rowKey
 
       keyed : Keyed (modeOf u) key iv
       keyed = as-keyed h

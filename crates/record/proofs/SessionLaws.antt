@@ -13,8 +13,9 @@ use lib.Seq.{take-append-add}
 use Rattle.octets.specs.Lent.{when, over}
 use Rattle.octets.proofs.Tests.{part-at}
 use Rattle.octets.proofs.Unique.{unique, unique-by}
-use Rattle.keytable.specs.Row.{nameMax, useOf}
+use Rattle.keytable.specs.Row.{nameMax, Row}
 use Rattle.keytable.specs.Table.{tableOk, dataRow}
+use Rattle.keytable.proofs.Laws.{kek-row-more}
 use Rattle.session.specs.Iv.{lastField, withFields, isSpent, ivOf, nextSession}
 use Rattle.session.specs.Calls.{SessionAnswer, sessionAfter}
 use Rattle.session.specs.Laws.{SessionRun}
@@ -25,7 +26,7 @@ use Rattle.modes.specs.Modes.{modeOf}
 use Rattle.record.specs.Record.{ivAt, ivIn, recordFront}
 use Rattle.record.specs.Seal.{recordOf, sealedSize, sealNumber, sealRow}
 use Rattle.record.specs.Next.{sealedSays, sealNextNumber, sealNextRow, sealNextAnswer}
-use Rattle.record.specs.Laws.{NextOtherRows, NextLive, NextSpent, NextSeals, NextAdvances, NextRefused, Lent, sealBefore, sealCall, written, RecordsDiffer}
+use Rattle.record.specs.Laws.{NextOtherRows, NextBesideKek, NextLive, NextSpent, NextSeals, NextAdvances, NextRefused, Lent, sealBefore, sealCall, written, RecordsDiffer}
 use Rattle.record.specs.Laws.{SealByUnique, SealNextUnique, SealNextTestsRise}
 use Rattle.octets.proofs.Lent.{answer-done, over-append}
 use Rattle.record.proofs.Written.{length-front, read-back}
@@ -36,6 +37,10 @@ use Rattle.record.proofs.WithSession.{next-zero, next-live, next-spent,
 
 pub next-other-rows : NextOtherRows
 next-other-rows s t u name a p out ok-t ok-u e = rw (ok-t, ok-u, e)
+
+pub next-beside-kek : NextBesideKek
+next-beside-kek s t u row name a p out ok-t ok-u more kek =
+    next-other-rows s u t name a p out ok-u ok-t (kek-row-more t u row name ok-u more kek)
 
 pub next-as-sealing : NextLive
 unfolding sealNextRow sealRow
@@ -130,10 +135,10 @@ unfolding recordOf
 iv-written s t name a p out e =
     let (number, live) = next-told s t name a p out e in
     let h = in-range (tableOk t) name (ivOf s) a (length p) (length out) (dataRow t name) number in
-    let u = useOf (h .found-row) in
+    let u = h .found-row .rowUse in
     let F = recordFront u name (length p) in
     let size = sealedSize (dataRow t name) name (length p) in
-    let size-is = ap (λ (o : Option (List ℕ)). sealedSize o name (length p)) (h .found-is) in
+    let size-is = ap (λ (o : Option Row). sealedSize o name (length p)) (h .found-is) in
     let fits : size ≤ length out = omega (arith, size-is, h .room-fits) in
     let short : length F + length (ivOf s) ≤ size = omega (arith, size-is, length-front u name (length p), h .iv-size) in
     ap (λ (l : List ℕ). ivIn (take size l))

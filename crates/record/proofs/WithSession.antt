@@ -16,13 +16,14 @@ use Rattle.session.specs.Calls.{SessionAnswer, advanceAnswer}
 use Rattle.session.specs.declared.Session.{Session}
 use Rattle.session.proofs.Calls.{advance-spent, advance-done, advance-live}
 use Rattle.session.proofs.Laws.{length-iv}
+use Rattle.keytable.specs.Row.{Row}
 use Rattle.record.specs.Seal.{recordBy, sealTests, sealNumber, readyBy}
 use Rattle.record.specs.Next.{sealNextNumber, sealNextRow}
 use Rattle.record.proofs.SealReady.{ready-refused, ready-number}
 
 -- ---- over the definition
 
-module _ (s : Session) (ok : Bool) (row : Option (List ℕ)) (name a p : List ℕ) where
+module _ (s : Session) (ok : Bool) (row : Option Row) (name a p : List ℕ) where
   next-number : (room : ℕ) → sealNextNumber s ok row name a (length p) room
       ≡ when (eqb (sealNumber ok row name (ivOf s) a (length p) room) 0) (lowest ((10, isSpent s) ∷ [])) (sealNumber ok row name (ivOf s) a (length p) room)
   unfolding sealNextNumber sealNumber
@@ -95,7 +96,7 @@ module _ (s : Session) (m : ℕ) (iv : List ℕ) (t : Session) (e : advanceAnswe
       go false p = ap length (sym (ap (λ (x : SessionAnswer). x .1) (sym (advance-done s p) ∙ e)))
 
   -- and sealing's number looks at that length alone
-  module _ (size : length (s .prefix) ≡ prefixSize) (ok : Bool) (row : Option (List ℕ)) (name a p out : List ℕ) where
+  module _ (size : length (s .prefix) ≡ prefixSize) (ok : Bool) (row : Option Row) (name a p out : List ℕ) where
     number-alike : sealNumber ok row name iv a (length p) (length out) ≡ sealNumber ok row name (ivOf s) a (length p) (length out)
     unfolding sealNumber
     number-alike = rw (iv-alike size)
@@ -105,7 +106,7 @@ module _ (s : Session) (m : ℕ) (iv : List ℕ) (t : Session) (e : advanceAnswe
         let (number, not-zero) = ready-refused ok row name iv a (length p) (length out) n r in
         next-refused s ok row name a p out n (sym number-alike ∙ number) not-zero
 
-    module _ (found : List ℕ) (r : readyBy ok row name iv a (length p) (length out) ≡ (0, some found)) where
+    module _ (found : Row) (r : readyBy ok row name iv a (length p) (length out) ≡ (0, some found)) where
       passed : sealNumber ok row name (ivOf s) a (length p) (length out) ≡ 0
       passed = sym number-alike ∙ ready-number ok row name iv a (length p) (length out) found r
 

@@ -10,6 +10,7 @@ use Prim.Native.Nat.{ℕ, _≤_}
 use lib.ListN.{length}
 use Rattle.octets.specs.Bytes.{Bytes}
 use Rattle.octets.specs.Lent.{over}
+use Rattle.keytable.specs.Row.{Row}
 use Rattle.keytable.specs.Table.{dataRow}
 use Rattle.record.specs.Record.{nameIn, ivIn}
 use Rattle.record.specs.Seal.{sealedSize, sealAnswer}
@@ -19,10 +20,11 @@ use Rattle.record.specs.Open.{openAnswer}
 pub record Opens (t r a out : List ℕ) (count : ℕ) (p : List ℕ) : Type 0 where
   pub answers : openAnswer t r a out count ≡ ((0, over p out), length p)
 
--- the table has a row of this name, and sealing the byte string p by it makes exactly r: 0, and all of an output of just that size is r
+-- the table has a row of this name, which is one of type 0000h (document 02, No. 2), and sealing the byte string p by it makes exactly r: 0, and all of an
+-- output of just that size is r
 pub record Seals (t name iv a p r : List ℕ) : Type 0 where
   pub bytes : Bytes p
-  pub row : List ℕ
+  pub row : Row
   pub has-row : dataRow t name ≡ some row
   pub makes : (out : List ℕ) → length out ≡ sealedSize (some row) name (length p) → sealAnswer t name iv a p out ≡ (0, r)
 

@@ -11,8 +11,9 @@ use Rattle.octets.specs.Bytes.{Bytes}
 use Rattle.octets.specs.Lent.{over}
 use Rattle.octets.specs.Lowest.{rises}
 use Rattle.octets.specs.Unique.{Unique, UniqueBy}
-use Rattle.keytable.specs.Row.{nameMax, useOf, rowKey}
+use Rattle.keytable.specs.Row.{nameMax, kekUse, Row}
 use Rattle.keytable.specs.Table.{tableOk, dataRow}
+use Rattle.keytable.specs.Laws.{RowMore}
 use Rattle.modes.specs.Calls.{textMax}
 use Rattle.modes.specs.Modes.{namesMode, modeOf}
 use Rattle.session.specs.Iv.{isSpent, ivOf, nextSession}
@@ -42,15 +43,14 @@ HeaderBack = (r : List ℕ) → Bytes r → layoutOk r ≡ true → frontIn r �
 
 -- ---- sealing in range
 
--- an accepted table with a row of the name, whose use is a mode; a name, an IV and n bytes of plaintext that document 01 permits; and room for the record
-pub record SealInRange (ok : Bool) (found : Option (List ℕ)) (name iv a : List ℕ) (n room : ℕ) : Type 0 where
+-- an accepted table with a row of the name; a name, an IV and n bytes of plaintext that document 01 permits; and room for the record
+pub record SealInRange (ok : Bool) (found : Option Row) (name iv a : List ℕ) (n room : ℕ) : Type 0 where
   pub accepted : ok ≡ true
-  pub found-row : List ℕ
+  pub found-row : Row
   pub found-is : found ≡ some found-row
-  pub names-mode : namesMode (useOf found-row) ≡ true
   pub name-given : 1 ≤ length name
-  pub iv-size : length iv ≡ modeOf (useOf found-row) .ivSize
-  pub permitted : modeOf (useOf found-row) .permits n ≡ true
+  pub iv-size : length iv ≡ modeOf (found-row .rowUse) .ivSize
+  pub permitted : modeOf (found-row .rowUse) .permits n ≡ true
   pub name-fits : length name ≤ nameMax
   pub text-fits : n ≤ textMax
   pub data-fits : length a ≤ callersMax
@@ -60,11 +60,15 @@ pub record SealInRange (ok : Bool) (found : Option (List ℕ)) (name iv a : List
 abbrev pub SealsInRange : Type 0
 SealsInRange =
     (t name iv a p out : List ℕ) (h : SealInRange (tableOk t) (dataRow t name) name iv a (length p) (length out))
-    → sealAnswer t name iv a p out ≡ (0, over (recordOf (useOf (h .found-row)) (rowKey (h .found-row)) name iv a p) out)
+    → sealAnswer t name iv a p out ≡ (0, over (recordOf (h .found-row .rowUse) (h .found-row .rowKey) name iv a p) out)
 
 abbrev pub SealsOnlyInRange : Type 0
 SealsOnlyInRange =
     (t name iv a p out : List ℕ) → sealAnswer t name iv a p out .0 ≡ 0 → SealInRange (tableOk t) (dataRow t name) name iv a (length p) (length out)
+
+-- the row's use is a mode: a key-encrypting key's row has another type than records look for
+abbrev pub DataRowMode : Type 0
+DataRowMode = (t name : List ℕ) (row : Row) → tableOk t ≡ true → dataRow t name ≡ some row → namesMode (row .rowUse) ≡ true
 
 -- ---- "Between two accepted tables with the same row for a name, or both with none, the other rows change no answer for that name"
 
@@ -82,6 +86,23 @@ abbrev pub NextOtherRows : Type 0
 NextOtherRows =
     (s : Session) (t u name a p out : List ℕ) → tableOk t ≡ true → tableOk u ≡ true → dataRow t name ≡ dataRow u name
     → sealNextAnswer s t name a p out ≡ sealNextAnswer s u name a p out
+
+-- so the row of a key-encrypting key changes no answer for a record, were it of the record's own name
+
+abbrev pub SealBesideKek : Type 0
+SealBesideKek =
+    (t u : List ℕ) (row : Row) (name iv a p out : List ℕ) → tableOk t ≡ true → tableOk u ≡ true → RowMore t u row → row .rowUse ≡ kekUse
+    → sealAnswer u name iv a p out ≡ sealAnswer t name iv a p out
+
+abbrev pub OpenBesideKek : Type 0
+OpenBesideKek =
+    (t u : List ℕ) (row : Row) (r a out : List ℕ) (count : ℕ) → tableOk t ≡ true → tableOk u ≡ true → RowMore t u row → row .rowUse ≡ kekUse
+    → openAnswer u r a out count ≡ openAnswer t r a out count
+
+abbrev pub NextBesideKek : Type 0
+NextBesideKek =
+    (s : Session) (t u : List ℕ) (row : Row) (name a p out : List ℕ) → tableOk t ≡ true → tableOk u ≡ true → RowMore t u row → row .rowUse ≡ kekUse
+    → sealNextAnswer s u name a p out ≡ sealNextAnswer s t name a p out
 
 -- ---- what an output held before never matters, only its length: two outputs of one length get one number, and after 0 the same bytes up to
 -- the result's end and their own after it
@@ -201,14 +222,14 @@ abbrev pub HeaderTestsRise : Type 0
 HeaderTestsRise = (r : List ℕ) → rises (headerTests r) ≡ true
 
 abbrev pub SealTestsRise : Type 0
-SealTestsRise = (ok : Bool) (row : Option (List ℕ)) (name iv a : List ℕ) (n room : ℕ) → rises (sealTests ok row name iv a n room) ≡ true
+SealTestsRise = (ok : Bool) (row : Option Row) (name iv a : List ℕ) (n room : ℕ) → rises (sealTests ok row name iv a n room) ≡ true
 
 abbrev pub RecordTagTestsRise : Type 0
 RecordTagTestsRise = (key r a : List ℕ) → rises (recordTagTests key r a) ≡ true
 
 abbrev pub OpenTestsRise : Type 0
-OpenTestsRise = (ok : Bool) (row : Option (List ℕ)) (r a : List ℕ) (room : ℕ) → rises (openTests ok row r a room) ≡ true
+OpenTestsRise = (ok : Bool) (row : Option Row) (r a : List ℕ) (room : ℕ) → rises (openTests ok row r a room) ≡ true
 
 abbrev pub SealNextTestsRise : Type 0
 SealNextTestsRise =
-    (s : Session) (ok : Bool) (row : Option (List ℕ)) (name a : List ℕ) (n room : ℕ) → rises (sealNextTests s ok row name a n room) ≡ true
+    (s : Session) (ok : Bool) (row : Option Row) (name a : List ℕ) (n room : ℕ) → rises (sealNextTests s ok row name a n room) ≡ true

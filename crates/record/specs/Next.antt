@@ -6,6 +6,7 @@ use mathlib.Core.List.{List, [], _∷_, _++_}
 use mathlib.Core.Option.{Option}
 use lib.ListN.{length}
 use Rattle.octets.specs.Lent.{Tests, lowest, answer}
+use Rattle.keytable.specs.Row.{Row}
 use Rattle.keytable.specs.Table.{tableOk, dataRow}
 use Rattle.session.specs.Iv.{isSpent, ivOf}
 use Rattle.session.specs.Calls.{SessionAnswer, sessionAfter}
@@ -14,14 +15,14 @@ use Rattle.record.specs.Seal.{recordBy, sealTests}
 use Rattle.record.specs.declared.next.Sealed.{Sealed}
 
 -- "The lowest that applies is given": sealing's own tests, and then 10, "IV session spent"
-abbrev pub sealNextTests : Session → Bool → Option (List ℕ) → List ℕ → List ℕ → ℕ → ℕ → Tests
+abbrev pub sealNextTests : Session → Bool → Option Row → List ℕ → List ℕ → ℕ → ℕ → Tests
 sealNextTests s ok row name a n room = sealTests ok row name (ivOf s) a n room ++ ((10, isSpent s) ∷ [])
 
-unfoldable pub sealNextNumber : Session → Bool → Option (List ℕ) → List ℕ → List ℕ → ℕ → ℕ → ℕ
+unfoldable pub sealNextNumber : Session → Bool → Option Row → List ℕ → List ℕ → ℕ → ℕ → ℕ
 sealNextNumber s ok row name a n room = lowest (sealNextTests s ok row name a n room)
 
 -- the number, the lent output, and the session: "After any but 0, each lent buffer and session is unchanged"
-unfoldable pub sealNextRow : Session → Bool → Option (List ℕ) → List ℕ → List ℕ → List ℕ → List ℕ → SessionAnswer
+unfoldable pub sealNextRow : Session → Bool → Option Row → List ℕ → List ℕ → List ℕ → List ℕ → SessionAnswer
 sealNextRow s ok row name a p out = (
   sealNextNumber s ok row name a (length p) (length out),
   answer (sealNextNumber s ok row name a (length p) (length out)) (recordBy row name (ivOf s) a p) out .1,

@@ -7,7 +7,7 @@ use mathlib.Core.Option.{Option, some, none}
 use lib.ListN.{length}
 use lib.Dec.{eqb, ltb}
 use Rattle.octets.specs.Lent.{Tests, lowest, kept, answer}
-use Rattle.keytable.specs.Row.{rowKey}
+use Rattle.keytable.specs.Row.{Row}
 use Rattle.keytable.specs.Table.{tableOk, dataRow}
 use Rattle.keytable.specs.Calls.{missing, useIn}
 use Rattle.modes.specs.Modes.{namesMode}
@@ -22,13 +22,13 @@ authenticBy key r a = modeFor r .authentic key (ivIn r) (frontIn r ++ a) (textIn
 unfoldable pub plaintextBy : List ℕ → List ℕ → List ℕ
 plaintextBy key r = modeFor r .plaintext key (ivIn r) (textIn r)
 
-abbrev pub authenticIn : Option (List ℕ) → List ℕ → List ℕ → Bool
+abbrev pub authenticIn : Option Row → List ℕ → List ℕ → Bool
 authenticIn none r a = false
-authenticIn (some row) r a = authenticBy (rowKey row) r a
+authenticIn (some row) r a = authenticBy (row .rowKey) r a
 
-abbrev pub plaintextIn : Option (List ℕ) → List ℕ → List ℕ
+abbrev pub plaintextIn : Option Row → List ℕ → List ℕ
 plaintextIn none r = []
-plaintextIn (some row) r = plaintextBy (rowKey row) r
+plaintextIn (some row) r = plaintextBy (row .rowKey) r
 
 -- the tag by itself
 abbrev pub recordTagTests : List ℕ → List ℕ → List ℕ → Tests
@@ -38,7 +38,7 @@ recordTagTests key r a = (9, not (authenticBy key r a)) ∷ []
 abbrev pub tagAnswer : List ℕ → List ℕ → List ℕ → List ℕ → ℕ × List ℕ
 tagAnswer key r a out = answer (lowest (recordTagTests key r a)) (plaintextBy key r) out
 
-abbrev pub openTests : Bool → Option (List ℕ) → List ℕ → List ℕ → ℕ → Tests
+abbrev pub openTests : Bool → Option Row → List ℕ → List ℕ → ℕ → Tests
 openTests ok row r a room =
     (1, not ok)
     ∷ (2, not (layoutOk r))
@@ -50,11 +50,11 @@ openTests ok row r a room =
     ∷ (9, not (authenticIn row r a))
     ∷ []
 
-unfoldable pub openNumber : Bool → Option (List ℕ) → List ℕ → List ℕ → ℕ → ℕ
+unfoldable pub openNumber : Bool → Option Row → List ℕ → List ℕ → ℕ → ℕ
 openNumber ok row r a room = lowest (openTests ok row r a room)
 
 -- the number and the output; and the count, which is lent and changed by 0 alone
-unfoldable pub openRow : Bool → Option (List ℕ) → List ℕ → List ℕ → List ℕ → ℕ → (ℕ × List ℕ) × ℕ
+unfoldable pub openRow : Bool → Option Row → List ℕ → List ℕ → List ℕ → ℕ → (ℕ × List ℕ) × ℕ
 openRow ok row r a out count =
     (answer (openNumber ok row r a (length out)) (plaintextIn row r) out, kept (openNumber ok row r a (length out)) (countIn r) count)
 

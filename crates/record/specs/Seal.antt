@@ -8,12 +8,12 @@ use mathlib.Core.Option.{Option, some, none}
 use lib.ListN.{length}
 use lib.Dec.{eqb, ltb}
 use Rattle.octets.specs.Lent.{Tests, isNot, lowest, kept, answer}
-use Rattle.keytable.specs.Row.{nameMax, rowKeySize, useOf, rowKey}
+use Rattle.keytable.specs.Row.{nameMax, rowKeySize, Row}
 use Rattle.keytable.specs.Table.{tableOk, dataRow, rowAt}
 use Rattle.keytable.specs.Calls.{missing, useIn}
 use Rattle.modes.specs.Mode.{sealed}
 use Rattle.modes.specs.Calls.{textMax}
-use Rattle.modes.specs.Modes.{namesMode, modeOf}
+use Rattle.modes.specs.Modes.{modeOf}
 use Rattle.record.specs.Record.{endAt, recordFront}
 use Rattle.record.specs.Read.{passes}
 use Rattle.record.specs.declared.sealing.SealReady.{SealReady}
@@ -28,12 +28,12 @@ unfoldable pub recordOf : ℕ → List ℕ → List ℕ → List ℕ → List �
 recordOf u key name iv a p =
     recordFront u name (length p) ++ (iv ++ sealed (modeOf u) key iv (recordFront u name (length p) ++ a) p)
 
-abbrev pub recordBy : Option (List ℕ) → List ℕ → List ℕ → List ℕ → List ℕ → List ℕ
+abbrev pub recordBy : Option Row → List ℕ → List ℕ → List ℕ → List ℕ → List ℕ
 recordBy none name iv a p = []
-recordBy (some row) name iv a p = recordOf (useOf row) (rowKey row) name iv a p
+recordBy (some row) name iv a p = recordOf (row .rowUse) (row .rowKey) name iv a p
 
 -- "52+k+n": the bytes that sealing n bytes by a row fills; without a row, CCM's
-abbrev pub sealedSize : Option (List ℕ) → List ℕ → ℕ → ℕ
+abbrev pub sealedSize : Option Row → List ℕ → ℕ → ℕ
 sealedSize row name n = endAt (modeOf (useIn row)) (length name) n
 
 -- the record of that row, where there is one
@@ -47,17 +47,16 @@ Fillable u key name iv a p out =
     × (length a ≤ callersMax) × (length p ≤ textMax) × (endAt (modeOf u) (length name) (length p) ≤ length out)
 
 -- sealing n bytes into so much room: of the plaintext its length alone is looked at
-abbrev pub sealTests : Bool → Option (List ℕ) → List ℕ → List ℕ → List ℕ → ℕ → ℕ → Tests
+abbrev pub sealTests : Bool → Option Row → List ℕ → List ℕ → List ℕ → ℕ → ℕ → Tests
 sealTests ok row name iv a n room =
     (1, not ok)
     ∷ (2, eqb (length name) 0 || isNot (modeOf (useIn row) .ivSize) iv || not (modeOf (useIn row) .permits n))
     ∷ (4, passes (length name) n || ltb callersMax (length a))
     ∷ (5, ltb room (sealedSize row name n))
     ∷ (6, missing row)
-    ∷ (7, not (namesMode (useIn row)))
     ∷ []
 
-unfoldable pub sealNumber : Bool → Option (List ℕ) → List ℕ → List ℕ → List ℕ → ℕ → ℕ → ℕ
+unfoldable pub sealNumber : Bool → Option Row → List ℕ → List ℕ → List ℕ → ℕ → ℕ → ℕ
 sealNumber ok row name iv a n room = lowest (sealTests ok row name iv a n room)
 
 -- the tests by themselves: each case's number, and the row that comes with 0
@@ -65,18 +64,18 @@ abbrev pub readyNumber : SealReady → ℕ
 readyNumber (At i) = 0
 readyNumber (Refused n) = n
 
-abbrev pub readyRow : List ℕ → SealReady → Option (List ℕ)
+abbrev pub readyRow : List ℕ → SealReady → Option Row
 readyRow t (At i) = some (rowAt t i)
 readyRow t (Refused n) = none
 
-unfoldable pub readyBy : Bool → Option (List ℕ) → List ℕ → List ℕ → List ℕ → ℕ → ℕ → ℕ × Option (List ℕ)
+unfoldable pub readyBy : Bool → Option Row → List ℕ → List ℕ → List ℕ → ℕ → ℕ → ℕ × Option Row
 readyBy ok row name iv a n room = (sealNumber ok row name iv a n room, kept (sealNumber ok row name iv a n room) row none)
 
-abbrev pub readyAnswer : List ℕ → List ℕ → List ℕ → List ℕ → ℕ → ℕ → ℕ × Option (List ℕ)
+abbrev pub readyAnswer : List ℕ → List ℕ → List ℕ → List ℕ → ℕ → ℕ → ℕ × Option Row
 readyAnswer t name iv a n room = readyBy (tableOk t) (dataRow t name) name iv a n room
 
 -- by whether the table is accepted and the row that matched
-unfoldable pub sealRow : Bool → Option (List ℕ) → List ℕ → List ℕ → List ℕ → List ℕ → List ℕ → ℕ × List ℕ
+unfoldable pub sealRow : Bool → Option Row → List ℕ → List ℕ → List ℕ → List ℕ → List ℕ → ℕ × List ℕ
 sealRow ok row name iv a p out = answer (sealNumber ok row name iv a (length p) (length out)) (recordBy row name iv a p) out
 
 abbrev pub sealAnswer : List ℕ → List ℕ → List ℕ → List ℕ → List ℕ → List ℕ → ℕ × List ℕ

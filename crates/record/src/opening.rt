@@ -4,6 +4,7 @@ use crate::header::number_of;
 use crate::header::read;
 use crate::sizes::CALLERS_MAX;
 use crate::sizes::NAME_AT;
+use keytable::DATA_TYPE;
 use keytable::Found;
 use keytable::Table;
 use keytable::key_at;
@@ -55,7 +56,7 @@ pub fn open(table: &[u8], r: &[u8], aad: &[u8], out: &mut [u8], count: &mut u64)
     if out.len() < n {
         return 5;
     }
-    let Found::At(at) = keytable::find(table, part(r, NAME_AT, k)) else {
+    let Found::At(at) = keytable::find(table, DATA_TYPE, part(r, NAME_AT, k)) else {
         return 6;
     };
     let u = use_at(table, at);

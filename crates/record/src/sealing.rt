@@ -4,13 +4,13 @@ use crate::header::passes_maximum;
 use crate::header::put_both;
 use crate::sizes::CALLERS_MAX;
 use crate::sizes::NAME_AT;
+use keytable::DATA_TYPE;
 use keytable::Found;
 use keytable::Table;
 use keytable::key_at;
 use keytable::use_at;
 use modes::encrypt;
 use modes::iv_size;
-use modes::names_mode;
 use modes::tag_size;
 use octets::strings::part;
 ghost use mathlib.Core.Path.{_≡_};
@@ -65,7 +65,7 @@ pub(crate) fn ready_to_seal(
     let Table::Rows(_) = keytable::check(table) else {
         return SealReady::Refused(1);
     };
-    let found = keytable::find(table, name);
+    let found = keytable::find(table, DATA_TYPE, name);
     let u = use_found(table, found);
     let iv_long = iv_size(u);
     if (name.len() == 0) | (iv.len() != iv_long) {
@@ -80,9 +80,6 @@ pub(crate) fn ready_to_seal(
     let Found::At(at) = found else {
         return SealReady::Refused(6);
     };
-    if !names_mode(u) {
-        return SealReady::Refused(7);
-    }
     SealReady::At(at)
 }
 

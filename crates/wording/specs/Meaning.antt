@@ -15,7 +15,7 @@ meanings =
     ∷ ascii "3: a field, type, format or mode not permitted\n"
     ∷ ascii "4: a maximum is passed\n"
     ∷ ascii "5: output shorter than the result\n"
-    ∷ ascii "6: no row of that name\n"
+    ∷ ascii "6: no row of that type and name\n"
     ∷ ascii "7: the row's use is another\n"
     ∷ ascii "8: wrapped key not 40 bytes\n"
     ∷ ascii "9: tag, or unwrapped start value, wrong\n"

@@ -20,7 +20,7 @@ fn worded(text: &[u8]) -> Line
     }
 }
 
-// The line of a number of document 01, `6: no row of that name`; one that begins with no number for any other.
+// The line of a number of document 01, `6: no row of that type and name`; one that begins with no number for any other.
 pub fn meaning(number: u8) -> Line
     ensures { λ r. ⌜ lineOf (meaningOf number) ≡ (r .size, r .bytes) ⌝ }
 {
@@ -31,7 +31,7 @@ pub fn meaning(number: u8) -> Line
         3 => worded(b"3: a field, type, format or mode not permitted\n"),
         4 => worded(b"4: a maximum is passed\n"),
         5 => worded(b"5: output shorter than the result\n"),
-        6 => worded(b"6: no row of that name\n"),
+        6 => worded(b"6: no row of that type and name\n"),
         7 => worded(b"7: the row's use is another\n"),
         8 => worded(b"8: wrapped key not 40 bytes\n"),
         9 => worded(b"9: tag, or unwrapped start value, wrong\n"),

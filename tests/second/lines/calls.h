@@ -70,6 +70,15 @@ static inline void write_numbered(const char *about, const char *name, struct by
     putchar('\n');
 }
 
+/* A lookup: table and name, and then the type. */
+static inline void write_find(const char *about, const struct bytes *w, unsigned type)
+{
+    printf("%s.%lu find", about, ++lines);
+    put_hex(w[0].at, w[0].len);
+    put_hex(w[1].at, w[1].len);
+    printf(" %u\n", type);
+}
+
 /* A session's life: the strings that each of its calls is lent, its prefix, start and spent byte, and the calls' rooms. */
 static inline void write_life(const char *about, const char *name, const struct bytes *w, int count, uint32_t prefix,
                               uint64_t start, unsigned spent, const size_t *rooms, size_t calls)

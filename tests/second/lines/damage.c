@@ -80,7 +80,7 @@ static void narrow_sums(unsigned mode)
         checks("narrow", record);
     }
     for (size_t i = 0; i < COUNT(names); i++) {
-        struct row longer = { some(names[i]), r->key, mode };
+        struct row longer = data_row(some(names[i]), r->key, mode);
         struct bytes record = record_by(&longer, nothing, 3);
         checks("narrow", record);
         opens("narrow", keys, record, nothing, 3);

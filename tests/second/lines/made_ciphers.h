@@ -60,7 +60,7 @@ static inline void any_wrap(void)
 static inline void any_unwrap(void)
 {
     unsigned flaws = FLAWS(2, 5, 8, 9);
-    struct row row = { nothing, some(32), 3 };
+    struct row row = kek_row(nothing, some(32), 1);
     struct bytes w[] = { row.key, wrapped_by(&row) }, *of[] = { &w[0] };
     if (HAS(flaws, 9))
         w[1] = bit_changed(w[1]);

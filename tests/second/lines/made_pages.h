@@ -51,23 +51,31 @@ struct loading {
     struct bytes table, page;
 };
 
-/* A format that has the flaws: 8 and 9 are of wrapped keys, 6 and 7 of names. */
+/* A format that has the flaws: 8 and 9 are of wrapped keys, 7 is of references, 6 of both. */
 static inline unsigned any_format(unsigned flaws)
 {
     if (HAS(flaws, 8) || HAS(flaws, 9))
         return WRAPPED_KEY;
-    return formats[HAS(flaws, 6) || HAS(flaws, 7) ? 1 + below(2) : below(3)];
+    if (HAS(flaws, 7))
+        return REFERENCE;
+    return formats[HAS(flaws, 6) ? 1 + below(2) : below(3)];
 }
 
+/* The flaw of 9 is another key in the row, another in its place that a row of its name has, or a bit of the wrapped key. */
 static inline struct loading any_loading(unsigned flaws)
 {
     unsigned format = any_format(flaws), index = 1 + (unsigned)below(2);
+    unsigned type = format == WRAPPED_KEY ? 1 + (unsigned)below(2) : DATA_TYPE;
     struct table *t = any_rows(format == REFERENCE ? REFERENCE_LEAST : 1);
-    struct row *r = any_row(t, HAS(flaws, 6));
+    struct row *r = any_row(t, HAS(flaws, 6)), *other;
     int by_name = format != PLAIN_KEY && one_in(2), in_part = one_in(3);
     struct bytes name = HAS(flaws, 4) && by_name ? long_name(r->name) : r->name, wrapped = wrapped_by(r), key;
     struct loading l;
-    if (HAS(flaws, 9) && one_in(4))
+    make_kind(t, r, format == WRAPPED_KEY ? KEK_USE : HAS(flaws, 7) ? 3 - index : index, type);
+    other = row_with(t->row, t->count, r->name, (type + 1 + (unsigned)below(2)) % 3);
+    if (HAS(flaws, 9) && other)
+        wrapped = wrapped_by(other);
+    else if (HAS(flaws, 9) && one_in(4))
         r->key = bit_changed(r->key);
     else if (HAS(flaws, 9))
         wrapped = bit_changed(wrapped);
@@ -75,7 +83,7 @@ static inline struct loading any_loading(unsigned flaws)
         wrapped = sized(wrapped, another_length(PAGE_WRAPPED));
     key = format == REFERENCE ? name : some(PAGE_KEY);
     if (format == WRAPPED_KEY)
-        key = wrapped_part(1 + (unsigned)below(2), name, wrapped);
+        key = wrapped_part(type, name, wrapped);
     if (HAS(flaws, 2) && in_part)
         key = bad_part(format, key);
     if (HAS(flaws, 4) && !by_name)
@@ -88,9 +96,6 @@ static inline struct loading any_loading(unsigned flaws)
         l.page = page_not_permitted(l.page);
     if (HAS(flaws, 2) && !in_part)
         l.page = bad_page(l.page);
-    r->use = format == REFERENCE ? index : 3;
-    if (HAS(flaws, 7))
-        r->use = 1 + (r->use + (unsigned)below(2)) % 3;
     l.table = any_table(t, HAS(flaws, 1));
     return l;
 }

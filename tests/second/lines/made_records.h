@@ -24,7 +24,7 @@ static inline struct sealing any_sealing(unsigned flaws, int session)
         s.name = nothing;
     else if (HAS(flaws, 2))
         s.iv = sized(s.iv, another_length(IV));
-    r->use = HAS(flaws, 7) ? 3 : 1 + (unsigned)below(2);
+    make_kind(t, r, 1 + (unsigned)below(2), DATA_TYPE);
     s.table = any_table(t, HAS(flaws, 1));
     s.total = HEADER + s.name.len + IV + s.plain.len + TAG;
     return s;
@@ -32,7 +32,7 @@ static inline struct sealing any_sealing(unsigned flaws, int session)
 
 static inline void any_seal(void)
 {
-    unsigned flaws = FLAWS(1, 2, 4, 5, 6, 7);
+    unsigned flaws = FLAWS(1, 2, 4, 5, 6);
     struct sealing s = any_sealing(flaws, 0);
     struct bytes w[] = { s.table, s.name, s.iv, s.aad, s.plain };
     write_made("seal", w, 5, any_room(s.total, HAS(flaws, 5)));
@@ -93,7 +93,7 @@ static inline struct opening any_opening(unsigned flaws)
         o.record.len -= less;
     else if (way == IN_TOTAL)
         o.record = joined(o.record, some(less));
-    r->use = HAS(flaws, 7) ? one_in(2) ? 3 : 3 - mode : mode;
+    make_kind(t, r, HAS(flaws, 7) ? 3 - mode : mode, DATA_TYPE);
     o.table = any_table(t, HAS(flaws, 1));
     return o;
 }
@@ -143,7 +143,7 @@ static inline void any_life(void)
 /* The flaw of 10 is a spent byte, or a start at which the second record is one too many. */
 static inline void any_seal_next(void)
 {
-    unsigned flaws = FLAWS(1, 2, 4, 5, 6, 7, 10), spent = 0;
+    unsigned flaws = FLAWS(1, 2, 4, 5, 6, 10), spent = 0;
     struct sealing s = any_sealing(flaws, 1);
     struct bytes w[] = { s.table, s.name, s.aad, s.plain };
     uint64_t start = any_start();

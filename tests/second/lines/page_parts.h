@@ -9,8 +9,11 @@
 #include "../model/pages.h"
 #include "rows.h"
 
-/* The key-encrypting key's row, then one of each mode with a name long enough for a reference; and their table. */
-static struct row named[3];
+/*
+ * The rows that pages name, data rows by their mode and key-encrypting keys by their type; and their table. Those and the
+ * row for CCM have one name, and all names are long enough for a reference.
+ */
+static struct row named[3], keks[3];
 static struct bytes holders;
 
 static const unsigned formats[] = { PLAIN_KEY, REFERENCE, WRAPPED_KEY };
@@ -19,10 +22,11 @@ static const unsigned formats[] = { PLAIN_KEY, REFERENCE, WRAPPED_KEY };
 static inline void begin_pages(int argc, char **argv)
 {
     begin(argc, argv);
-    named[0] = *kek;
     for (unsigned mode = 1; mode <= 2; mode++)
-        named[mode] = (struct row){ some(mode == 1 ? 9 : 20), some(32), mode };
-    holders = table_of(named, 3);
+        named[mode] = data_row(some(mode == 1 ? 9 : 20), some(32), mode);
+    for (unsigned type = 1; type <= 2; type++)
+        keks[type] = kek_row(named[1].name, some(32), type);
+    holders = table_of((struct row[]){ keks[1], named[1], named[2], keks[2] }, 4);
 }
 
 static inline void reads(const char *about, struct bytes page)
@@ -85,12 +89,12 @@ static inline struct bytes wrapped_part(unsigned type, struct bytes identifier, 
     return joined(joined(head, identifier), wrapped);
 }
 
-/* A KEY part by these rows that a load takes. */
+/* A KEY part by these rows that a load takes; a wrapped key's KEK type is the index. */
 static inline struct bytes key_of(unsigned index, unsigned format)
 {
     if (format == REFERENCE)
         return named[index].name;
-    return format == WRAPPED_KEY ? wrapped_part(index, named[0].name, wrapped_by(&named[0])) : some(32);
+    return format == WRAPPED_KEY ? wrapped_part(index, keks[index].name, wrapped_by(&keks[index])) : some(32);
 }
 
 static inline struct bytes list_with(unsigned descriptors)

@@ -6,7 +6,7 @@
  */
 #include "page_parts.h"
 
-/* Document 01's 66-byte page, with no row, a row of another use, and rows that do not unwrap forty zeros. */
+/* Document 01's 66-byte page, with no row, and with each kind of row: the one that answers does not unwrap forty zeros. */
 static void printed(void)
 {
     static const char front[] = "0010003e400002020204" "0000000000000000" "002e000200024b31";
@@ -14,8 +14,8 @@ static void printed(void)
     memset(page.at + 26, 0, 40);
     reads("printed", page);
     loads("printed", holders, page, 32);
-    for (unsigned use = 1; use <= 3; use++) {
-        struct row row = { name, some(32), use };
+    for (unsigned kind = 0; kind < COUNT(kinds); kind++) {
+        struct row row = row_as(name, some(32), kind);
         loads("printed", table_of(&row, 1), page, 32);
         loads("printed", table_of(&row, 1), page, 31);
     }
@@ -31,7 +31,7 @@ static void whole(void)
                 reads("whole", page);
                 for (size_t i = 0; i < COUNT(outs); i++)
                     loads("room", holders, page, outs[i]);
-                loads("no-row", table_of(named, 0), page, 32);
+                loads("no-row", table_of(NULL, 0), page, 32);
             }
 }
 
@@ -106,14 +106,14 @@ static void other_formats(void)
             both("another's-part", page_of(1, formats[i], key_of(1, formats[j]), list_with(i)));
 }
 
-/* References and identifiers of these lengths, of rows of each use and of none. */
+/* References and identifiers of these lengths, of rows of each kind and of none. */
 static void names(void)
 {
     static const size_t lens[] = { 0, 1, 2, 7, 8, 9, 10, 31, 32, 33, 34, 40, 255, 256 };
     for (size_t i = 0; i < COUNT(lens); i++)
-        for (unsigned use = 0; use <= 3; use++) {
-            struct row row = { some(lens[i]), some(32), use };
-            struct bytes table = use && row.name.len && row.name.len <= 32 ? table_of(&row, 1) : holders;
+        for (unsigned kind = 0; kind <= COUNT(kinds); kind++) {
+            struct row row = row_as(some(lens[i]), some(32), kind % COUNT(kinds));
+            struct bytes table = kind < COUNT(kinds) && row.name.len && row.name.len <= 32 ? table_of(&row, 1) : holders;
             for (unsigned index = 1; index <= 2; index++) {
                 struct bytes reference = page_of(index, REFERENCE, row.name, list_with(index));
                 struct bytes part = wrapped_part(index, row.name, wrapped_by(&row));
@@ -131,26 +131,30 @@ static void parts(void)
 {
     static const unsigned types[] = { 0, 1, 2, 3, 4, 0x80, 0xff, 0x100, 0x101, 0x102, 0x200, 0x201, 0x202, 0x8001, 0xffff };
     static const size_t wraps[] = { 0, 1, 8, 16, 24, 31, 32, 39, 40, 41, 48, 80 };
-    struct bytes wrapped = wrapped_by(&named[0]), part = wrapped_part(1, named[0].name, wrapped), list = list_with(2);
-    for (size_t i = 0; i < COUNT(types); i++)
-        both("kek-type", page_of(1, WRAPPED_KEY, wrapped_part(types[i], named[0].name, wrapped), list));
+    struct bytes name = keks[1].name, wrapped = wrapped_by(&keks[1]), other_key = wrapped_by(&keks[2]);
+    struct bytes part = wrapped_part(1, name, wrapped), list = list_with(2);
+    for (size_t i = 0; i < COUNT(types); i++) {
+        both("kek-type", page_of(1, WRAPPED_KEY, wrapped_part(types[i], name, wrapped), list));
+        both("kek-type", page_of(1, WRAPPED_KEY, wrapped_part(types[i], name, other_key), list));
+    }
     for (uint64_t n = 0; n <= part.len; n++) {
         both("identifier-length", page_of(2, WRAPPED_KEY, with(part, 2, 2, n), list));
         both("part-cut", page_of(2, WRAPPED_KEY, cut(part, n), list));
     }
     both("identifier-length", page_of(2, WRAPPED_KEY, with(part, 2, 2, 0xffff), list));
-    both("identifier-length", page_of(2, WRAPPED_KEY, with(part, 2, 2, 0x100 + named[0].name.len), list));
+    both("identifier-length", page_of(2, WRAPPED_KEY, with(part, 2, 2, 0x100 + name.len), list));
     for (size_t i = 0; i < COUNT(wraps); i++) {
         struct bytes cut_off = cut(joined(wrapped, some(40)), wraps[i]);
-        both("wrapped-length", page_of(1, WRAPPED_KEY, wrapped_part(2, named[0].name, cut_off), list_with(i % 4)));
-        both("wrapped-length", page_of(1, WRAPPED_KEY, wrapped_part(2, some(7), cut_off), list_with(i % 4)));
+        both("wrapped-length", page_of(1, WRAPPED_KEY, wrapped_part(1, name, cut_off), list_with(i % 4)));
+        both("wrapped-length", page_of(1, WRAPPED_KEY, wrapped_part(2, name, cut_off), list_with(i % 4)));
+        both("wrapped-length", page_of(1, WRAPPED_KEY, wrapped_part(1, some(7), cut_off), list_with(i % 4)));
     }
     for (unsigned bit = 0; bit < 320; bit++) {
         struct bytes other = changed(wrapped, bit / 8, 1u << bit % 8);
-        loads("wrapped", holders, page_of(1, WRAPPED_KEY, wrapped_part(1, named[0].name, other), nothing), 32);
+        loads("wrapped", holders, page_of(1, WRAPPED_KEY, wrapped_part(1, name, other), nothing), 32);
     }
     for (unsigned bit = 0; bit < 256; bit += 5) {
-        struct row row = { named[0].name, changed(named[0].key, bit / 8, 1u << bit % 8), 3 };
+        struct row row = kek_row(name, changed(keks[1].key, bit / 8, 1u << bit % 8), 1);
         loads("another-kek", table_of(&row, 1), page_of(1, WRAPPED_KEY, part, nothing), 32);
     }
 }
@@ -164,15 +168,16 @@ static void other_methods(void)
         { EVP_aes_256_wrap(), starts[1] }, { EVP_aes_256_wrap(), starts[2] }, { EVP_aes_256_wrap(), starts[3] },
         { EVP_aes_256_wrap_pad(), NULL }, { EVP_aes_192_wrap(), NULL }, { EVP_aes_128_wrap(), NULL } };
     for (unsigned i = 0; i < 50; i++) {
+        const struct row *r = &keks[1 + i % 2];
         struct bytes key = some(32), made = room_for(40);
         for (size_t m = 0; m < COUNT(methods); m++) {
-            must(key_wrap_as(methods[m].cipher, 1, named[0].key.at, methods[m].start, key.at, made.at), "another wrap");
-            loads("method", holders, page_of(1, WRAPPED_KEY, wrapped_part(1 + i % 2, named[0].name, made), nothing), 32);
+            must(key_wrap_as(methods[m].cipher, 1, r->key.at, methods[m].start, key.at, made.at), "another wrap");
+            loads("method", holders, page_of(1, WRAPPED_KEY, wrapped_part(r->type, r->name, made), nothing), 32);
         }
     }
 }
 
-/* Names that begin alike, after a vendor identification or by themselves; every choice of rows, each of any use. */
+/* Names that begin alike, after a vendor identification or by themselves; every choice of rows, of the right kind or any. */
 static void tapes(int reference)
 {
     static const char tails[4][7] = { "TAPE1", "TAPE10", "TAPE1\0", "TAPE" };
@@ -181,20 +186,18 @@ static void tapes(int reference)
     struct row all[4];
     for (unsigned i = 0; i < 4; i++) {
         struct bytes tail = { (unsigned char *)tails[i], lens[i] };
-        all[i] = (struct row){ reference ? joined(vendor, tail) : tail, some(32), reference ? 1 + i % 2 : 3 };
+        all[i] = row_as(reference ? joined(vendor, tail) : tail, some(32), (reference ? 0 : 2) + i % 2);
     }
     for (unsigned have = 0; have < 64; have++) {
         struct row some_of[4];
         unsigned count = 0;
         for (unsigned i = 0; i < 4; i++)
             if (have >> i & 1) {
-                some_of[count] = all[have & 16 ? 3 - i : i];
-                if (have & 32)
-                    some_of[count].use = 1 + byte() % 3;
-                count++;
+                const struct row *r = &all[have & 16 ? 3 - i : i];
+                some_of[count++] = have & 32 ? row_as(r->name, r->key, byte() % COUNT(kinds)) : *r;
             }
         for (unsigned i = 0; i < 4; i++) {
-            struct bytes key = reference ? all[i].name : wrapped_part(1, all[i].name, wrapped_by(&all[i]));
+            struct bytes key = reference ? all[i].name : wrapped_part(all[i].type, all[i].name, wrapped_by(&all[i]));
             struct bytes page = page_of(1 + i % 2, reference ? REFERENCE : WRAPPED_KEY, key, nothing);
             loads("tape", table_of(some_of, count), page, 32);
         }
@@ -205,11 +208,12 @@ static void tapes(int reference)
 static void tables(void)
 {
     static const unsigned counts[] = { 0, 1, 2, 63, 64, 65 };
-    struct row twice[] = { named[0], named[1], named[0] }, all[66];
+    struct row twice[] = { keks[1], named[2], keks[1] }, modes[] = { named[1], data_row(named[1].name, some(32), 2) }, all[66];
     struct bytes broken[] = { nothing, cut(holders, 7), cut(holders, holders.len - 1), joined(holders, some(1)), some(80),
         changed(holders, 1, 2), changed(holders, 3, 1), changed(holders, 5, 1), changed(holders, 7, 1), table_of(twice, 3),
         with(holders, 8, 1, 0), with(holders, 8, 1, 33), with(holders, 9, 1, 0), with(holders, 9, 1, 4),
-        with(holders, 10, 1, 1), with(holders, 47, 1, 1) };
+        with(holders, 10, 2, 0), with(holders, 10, 2, 3), with(holders, 82, 2, 1), with(holders, 12, 1, 1),
+        with(holders, 47, 1, 1), table_of(modes, 2) };
     for (size_t t = 0; t < COUNT(broken); t++)
         for (unsigned format = 0; format < 3; format++) {
             struct bytes page = good(2, formats[format], format);
@@ -220,13 +224,13 @@ static void tables(void)
             loads("broken-table", broken[t], page, 0);
         }
     for (unsigned i = 0; i < 66; i++) {
-        all[i] = (struct row){ some(9 + i % 24), some(32), 1 + i % 3 };
+        all[i] = row_as(some(9 + i % 24), some(32), i % COUNT(kinds));
         all[i].name.at[0] = (unsigned char)i;
     }
     for (size_t c = 0; c < COUNT(counts); c++)
         for (unsigned i = 0; i < 66; i += i < 4 || i > 57 ? 1 : 9) {
-            struct bytes part = wrapped_part(1, all[i].name, wrapped_by(&all[i]));
-            loads("rows", table_of(all, counts[c]), page_of(1 + i % 3 % 2, REFERENCE, all[i].name, nothing), 32);
+            struct bytes part = wrapped_part(1 + i % 2, all[i].name, wrapped_by(&all[i]));
+            loads("rows", table_of(all, counts[c]), page_of(1 + i % 2, REFERENCE, all[i].name, nothing), 32);
             loads("rows", table_of(all, counts[c]), page_of(1, WRAPPED_KEY, part, nothing), 32);
         }
 }
@@ -254,12 +258,27 @@ static void limits(void)
     /* a KEY part that is long, with KEY LENGTH up to all that a page can have */
     static const size_t key_lens[] = { 4075, 4076, 4077, 65518, 65519 };
     for (size_t i = 0; i < COUNT(key_lens); i++) {
-        struct bytes key = some(key_lens[i]), wrapped = cut(key, key.len - 4 - named[0].name.len);
+        struct bytes key = some(key_lens[i]), wrapped = cut(key, key.len - 4 - keks[1].name.len);
         reads("long-key", page_of(1, 0x03, key, nothing));
         both("long-key", page_of(1, REFERENCE, key, nothing));
-        both("long-key", page_of(1, WRAPPED_KEY, wrapped_part(1, named[0].name, wrapped), nothing));
+        both("long-key", page_of(1, WRAPPED_KEY, wrapped_part(1, keks[1].name, wrapped), nothing));
         both("long-key", page_of(1, WRAPPED_KEY, wrapped_part(1, cut(key, key.len - 44), some(40)), nothing));
     }
+}
+
+/* A row with that name and key, of the type so many after its own. */
+static struct row of_another_type(const struct row *r, unsigned after)
+{
+    unsigned type = (r->type + after) % 3;
+    return type == DATA_TYPE ? data_row(r->name, r->key, 2) : kek_row(r->name, r->key, type);
+}
+
+/* A table without the row: with its like of another name, or with one or both of the other types. */
+static struct bytes without(const struct row *r, unsigned way)
+{
+    struct row others[] = { of_another_type(r, 1), of_another_type(r, 2) }, renamed = *r;
+    renamed.name = some(r->name.len);
+    return way == 0 ? table_of(&renamed, 1) : way == 3 ? table_of(others, 2) : table_of(&others[way - 1], 1);
 }
 
 /* A page and a load with the flaw of each number in a set, in one of four ways: the lowest is to be given. */
@@ -267,7 +286,7 @@ static void flawed(unsigned format, unsigned set, unsigned way)
 {
     static const size_t rooms[] = { 31, 0, 16, 30 }, wraps[] = { 39, 24, 0, 32 };
     int has[10], long_name;
-    struct row row = format == REFERENCE ? named[2] : named[0];
+    struct row row = format == REFERENCE ? named[2] : keks[1];
     struct bytes wrapped = wrapped_by(&row), name = row.name, key, list, page, table;
     for (unsigned number = 1; number < 10; number++)
         has[number] = set >> number & 1;
@@ -277,7 +296,7 @@ static void flawed(unsigned format, unsigned set, unsigned way)
         wrapped = cut(wrapped, wraps[way]);
     if (has[7])
         row.use = 1;
-    table = table_of(has[6] ? &named[1] : &row, 1);
+    table = has[6] ? without(&row, way) : table_of(&row, 1);
     long_name = has[4] && way % 2 && format != PLAIN_KEY;
     if (long_name)
         name = joined(name, some(33 - name.len));
@@ -296,14 +315,15 @@ static void flawed(unsigned format, unsigned set, unsigned way)
     loads("flaws", table, page, has[5] ? rooms[way] : 32);
 }
 
-/* Every choice of the numbers that a load of the format can give. */
+/* Every choice of the numbers that a load of the format can give; 7 is a reference's alone. */
 static void flaws(void)
 {
     static const unsigned highest[] = { 5, 7, 9 };
     for (unsigned way = 0; way < 4; way++)
         for (unsigned format = 0; format < 3; format++)
             for (unsigned set = 0; set < 2u << highest[format]; set += 2)
-                flawed(formats[format], set, way);
+                if (formats[format] == REFERENCE || !(set >> 7 & 1))
+                    flawed(formats[format], set, way);
 }
 
 /* Any pages, whole and with a change or two; and bytes that are a page only by chance. */

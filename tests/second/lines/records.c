@@ -29,7 +29,7 @@ static void lengths(unsigned mode)
     for (size_t i = 0; i < COUNT(names); i++) {
         const struct row *longest = &rows[4 * (mode - 1) + 3];
         struct bytes extra = names[i] > 32 ? some(names[i] - 32) : nothing;
-        struct row r = { names[i] > 32 ? joined(longest->name, extra) : some(names[i]), longest->key, mode };
+        struct row r = data_row(names[i] > 32 ? joined(longest->name, extra) : some(names[i]), longest->key, mode);
         struct bytes record = record_by(&r, nothing, 3);
         seals("name-length", keys, r.name, some(IV), nothing, some(3), record.len);
         opens("name-length", keys, record, nothing, 3);
@@ -86,7 +86,8 @@ static void seal_refused(unsigned mode)
 static void open_refused(unsigned mode)
 {
     struct bytes tables[] = { keys, broken_table() }, datas[] = { some(20), some(4097) };
-    struct row named[] = { *row_of(mode), { some(6), some(32), mode }, *kek, *row_of(3 - mode), { some(33), some(32), mode } };
+    struct row named[] = { *row_of(mode), data_row(some(6), some(32), mode), *kek, *row_of(3 - mode),
+        data_row(some(33), some(32), mode) };
     unsigned unknown = mode == 1 ? 0 : 3;
     size_t n = 33, ins[] = { n, n - 1, 0 };
     for (size_t m = 0; m < COUNT(named); m++)
@@ -142,7 +143,7 @@ static void tapes(unsigned mode)
     struct row all[4];
     for (unsigned i = 0; i < 4; i++) {
         struct bytes name = { (unsigned char *)names[i], lens[i] };
-        all[i] = (struct row){ name, some(32), mode };
+        all[i] = data_row(name, some(32), mode);
     }
     for (unsigned have = 0; have < 32; have++) {
         struct row some_of[4];
@@ -163,7 +164,7 @@ static void tables(void)
     static const unsigned counts[] = { 0, 1, 2, 63, 64, 65 };
     struct row all[66];
     for (unsigned i = 0; i < 66; i++) {
-        all[i] = (struct row){ some(1 + i % 32), some(32), 1 + i % 3 };
+        all[i] = row_as(some(1 + i % 32), some(32), i % COUNT(kinds));
         all[i].name.at[0] = (unsigned char)i;
     }
     for (size_t c = 0; c < COUNT(counts); c++) {
@@ -179,17 +180,17 @@ static void another(unsigned mode)
 {
     const struct row *r = row_of(mode), *kin = r + 1, *other = row_of(3 - mode);
     struct bytes aad = some(9), record = record_by(r, aad, 20);
-    struct row mixed[] = { { r->name, kin->key, mode }, { kin->name, r->key, mode }, { r->name, r->key, 3 - mode },
-        { other->name, other->key, mode }, { kek->name, kek->key, mode } };
+    struct row mixed[] = { data_row(r->name, kin->key, mode), data_row(kin->name, r->key, mode),
+        data_row(r->name, r->key, 3 - mode), data_row(other->name, other->key, mode), data_row(kek->name, kek->key, mode) };
     for (size_t i = 0; i < COUNT(mixed); i++)
         opens("another", keys, record_by(&mixed[i], aad, 20), aad, 20);
-    for (unsigned use = 1; use <= 3; use++) {
-        struct row row = { r->name, r->key, use };
+    for (unsigned kind = 0; kind < COUNT(kinds); kind++) {
+        struct row row = row_as(r->name, r->key, kind);
         seals("another", table_of(&row, 1), r->name, some(IV), aad, some(20), 80);
         opens("another", table_of(&row, 1), record, aad, 20);
     }
     for (unsigned bit = 0; bit < 256; bit += 5) {
-        struct row row = { r->name, changed(r->key, bit / 8, 1u << bit % 8), mode };
+        struct row row = data_row(r->name, changed(r->key, bit / 8, 1u << bit % 8), mode);
         opens("another", table_of(&row, 1), record, aad, 20);
     }
     for (unsigned bit = 0; bit < 72; bit++)
@@ -203,7 +204,7 @@ static void another(unsigned mode)
 static void mixed(void)
 {
     for (int i = 0; i < 500; i++) {
-        const struct row *r = &rows[byte() % 8];
+        const struct row *r = &rows[byte() % ROWS];
         size_t n = byte(), a = byte();
         struct bytes aad = some(a), record = record_by(r, aad, n), table = keys;
         if (byte() < 64)

@@ -1,23 +1,35 @@
 /*
- * Lines of calls on key tables: of 0 to 66 rows; names that begin alike, or differ in a zero byte at the end; every
- * byte of a table changed; totals, counts, offsets and row lengths that do not fit; two rows of one name.
+ * Lines of calls on key tables: of 0 to 66 rows; names that begin alike, or differ in a zero byte at the end, with each
+ * type; every byte of a table changed; totals, counts, offsets and row lengths that do not fit; two rows of one name.
  */
-#include "../words.h"
-
-static unsigned long number;
-
-static void call(const char *what, const unsigned char *table, size_t len, const unsigned char *name, size_t name_len, int find)
-{
-    printf("%s.%lu %s", what, ++number, find ? "find" : "table_check");
-    put_hex(table, len);
-    if (find)
-        put_hex(name, name_len);
-    putchar('\n');
-}
+#include "calls.h"
 
 static unsigned char table[8 + 72 * 80];
 
-/* A table of so many rows; the name of row i is "K", then i in two digits, then i % 29 letters. */
+static void check(const char *about, size_t len)
+{
+    struct bytes t = { table, len };
+    write_call(about, "table_check", &t, 1, NO_OUTPUT);
+}
+
+static void look_up(const char *about, size_t len, const char *name, size_t name_len, unsigned type)
+{
+    struct bytes w[] = { { table, len }, { (unsigned char *)name, name_len } };
+    write_find(about, w, type);
+}
+
+/* By each type that a row can have, and by two that none can. */
+static void look_up_each(const char *about, size_t len, const char *name, size_t name_len)
+{
+    static const unsigned types[] = { 0, 1, 2, 3, 0xffff };
+    for (size_t i = 0; i < COUNT(types); i++)
+        look_up(about, len, name, name_len, types[i]);
+}
+
+/*
+ * A table of so many rows; the name of row i is "K", then i in two digits, then i % 29 letters. Every third is a
+ * key-encrypting key, of type 1 and 2 in turn.
+ */
 static size_t make(unsigned rows)
 {
     memset(table, 0, sizeof table);
@@ -26,6 +38,7 @@ static size_t make(unsigned rows)
         unsigned char *row = table + 8 + 72 * i;
         row[0] = (unsigned char)(3 + i % 29 + (i % 29 == 28));
         row[1] = (unsigned char)(1 + i % 3);
+        row[3] = (unsigned char)(i % 3 == 2 ? 1 + i / 3 % 2 : 0);
         row[8] = 'K', row[9] = (unsigned char)('0' + i / 10), row[10] = (unsigned char)('0' + i % 10);
         for (unsigned k = 3; k < row[0]; k++)
             row[8 + k] = (unsigned char)('a' + k % 26);
@@ -43,11 +56,6 @@ static void name_row(unsigned i, const char *name, size_t len)
     row[0] = (unsigned char)len;
 }
 
-static void look_up(const char *what, size_t len, const char *name, size_t name_len)
-{
-    call(what, table, len, (const unsigned char *)name, name_len, 1);
-}
-
 int main(void)
 {
     static const char tapes[][8] = { "TAPE1", "TAPE10", "TAPE1\0", "TAPE", "TAPE1\0\0", "tape1", "" };
@@ -57,13 +65,13 @@ int main(void)
 
     for (unsigned rows = 0; rows <= 66; rows++) {
         len = make(rows);
-        call("rows", table, len, NULL, 0, 0);
+        check("rows", len);
         for (unsigned i = 0; i < rows; i += 5)
-            call("row", table, len, table + 8 + 72 * i + 8, table[8 + 72 * i], 1);
-        look_up("none", len, "no such name", 12);
-        look_up("empty", len, "", 0);
-        look_up("long", len, longest, 33);
-        look_up("longest", len, longest, 32);
+            look_up_each("row", len, (char *)table + 8 + 72 * i + 8, table[8 + 72 * i]);
+        look_up_each("none", len, "no such name", 12);
+        look_up_each("empty", len, "", 0);
+        look_up_each("long", len, longest, 33);
+        look_up_each("longest", len, longest, 32);
     }
 
     /* each way to have some of these names, each looked up */
@@ -75,7 +83,7 @@ int main(void)
                 name_row(rows++, tapes[i], sizes[i]);
         table[3] = (unsigned char)rows;
         for (unsigned i = 0; i < 7; i++)
-            look_up("tape", 8 + 72 * (size_t)rows, tapes[i], sizes[i]);
+            look_up_each("tape", 8 + 72 * (size_t)rows, tapes[i], sizes[i]);
     }
 
     /* every byte changed, by one and by its top bit; looked up by the name of a row that stays */
@@ -83,28 +91,33 @@ int main(void)
     for (size_t i = 0; i < len; i++)
         for (int by = 1; by <= 128; by += 127) {
             table[i] ^= (unsigned char)by;
-            call("changed", table, len, NULL, 0, 0);
-            call("changed", table, len, (const unsigned char *)"K01d", 4, 1);
+            check("changed", len);
+            look_up("changed", len, "K01d", 4, 0);
             table[i] ^= (unsigned char)by;
         }
 
     /* totals that do not fit, down to nothing */
     for (size_t n = 0; n <= len + 80; n++)
-        call("total", table, n, NULL, 0, 0);
+        check("total", n);
     for (unsigned rows = 0; rows < 70; rows++) {
         make(64);
         table[3] = (unsigned char)rows;
-        call("count", table, 8 + 72 * 64, NULL, 0, 0);
+        check("count", 8 + 72 * 64);
         table[2] = 1;
-        call("count", table, 8 + 72 * 64, NULL, 0, 0);
+        check("count", 8 + 72 * 64);
     }
 
-    /* each pair of rows with one name */
+    /* each pair of rows with one name, use and type, and with the name alone */
     for (unsigned i = 0; i < 8; i++)
         for (unsigned j = 0; j < 8; j++) {
+            unsigned char *row = table + 8 + 72 * i, *other = table + 8 + 72 * j;
             len = make(8);
-            memcpy(table + 8 + 72 * j, table + 8 + 72 * i, 40);
-            call("pair", table, len, NULL, 0, 0);
+            memmove(other, row, 40);
+            check("pair", len);
+            make(8);
+            other[0] = row[0], memmove(other + 8, row + 8, 32);
+            check("names", len);
+            look_up_each("names", len, (char *)row + 8, row[0]);
         }
     return 0;
 }

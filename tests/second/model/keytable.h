@@ -1,19 +1,33 @@
-/* The key table, read anew from document 01, "Key table". */
+/* The key table, read anew from document 01, "Key table", and document 02, No. 2. */
 #ifndef KEYTABLE_H
 #define KEYTABLE_H
 
 #include "../words.h"
 
 #define NAME_LONGEST 32
+#define KEK_USE 3
+
+/* The type of a row that is no key-encrypting key's, and the highest that a row may have. */
+#define DATA_TYPE 0
+#define TYPE_HIGHEST 2
 
 static inline unsigned two(const unsigned char *at)
 {
     return at[0] * 256u + at[1];
 }
 
-static inline int same_name(const unsigned char *row, const unsigned char *name, size_t len)
+/* Whether a row of that use may have that type. */
+static inline int type_fits(unsigned use, unsigned type)
 {
-    return row[0] == len && memcmp(row + 8, name, len) == 0;
+    if (use == KEK_USE)
+        return type == 1 || type == 2;
+    return type == DATA_TYPE;
+}
+
+/* Whether a row answers: its type and its whole name are these. */
+static inline int is_row(const unsigned char *row, unsigned type, const unsigned char *name, size_t len)
+{
+    return two(row + 2) == type && row[0] == len && memcmp(row + 8, name, len) == 0;
 }
 
 static inline int table_bad(struct bytes t)
@@ -26,37 +40,40 @@ static inline int table_bad(struct bytes t)
         return 1;
     for (unsigned i = 0; i < rows; i++) {
         const unsigned char *row = t.at + 8 + 72 * i;
-        if (row[0] < 1 || row[0] > NAME_LONGEST || row[1] < 1 || row[1] > 3)
+        if (row[0] < 1 || row[0] > NAME_LONGEST || row[1] < 1 || row[1] > 3 || !type_fits(row[1], two(row + 2)))
             return 1;
-        for (int k = 2; k < 40; k++)
+        for (int k = 4; k < 40; k++)
             if ((k < 8 || k >= 8 + row[0]) && row[k] != 0)
                 return 1;
         for (unsigned j = 0; j < i; j++)
-            if (same_name(t.at + 8 + 72 * j, row + 8, row[0]))
+            if (is_row(t.at + 8 + 72 * j, two(row + 2), row + 8, row[0]))
                 return 1;
     }
     return 0;
 }
 
-/* The row of that whole name in an accepted table, or null. */
-static inline unsigned char *row_named(struct bytes t, const unsigned char *name, size_t len)
+/* The row of that type and whole name in an accepted table, or null. */
+static inline unsigned char *row_for(struct bytes t, unsigned type, const unsigned char *name, size_t len)
 {
     for (size_t at = 8; at < t.len; at += 72)
-        if (same_name(t.at + at, name, len))
+        if (is_row(t.at + at, type, name, len))
             return t.at + at;
     return NULL;
 }
 
-static inline int find(struct bytes *w, unsigned long long *use)
+/* Table, name; and the type. */
+static inline int find(struct bytes *w, unsigned type, unsigned long long *use)
 {
     const unsigned char *row;
     if (table_bad(w[0]))
         return 1;
     if (w[1].len == 0)
         return 2;
+    if (type > TYPE_HIGHEST)
+        return 3;
     if (w[1].len > NAME_LONGEST)
         return 4;
-    row = row_named(w[0], w[1].at, w[1].len);
+    row = row_for(w[0], type, w[1].at, w[1].len);
     if (!row)
         return 6;
     *use = row[1];

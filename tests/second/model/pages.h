@@ -1,4 +1,7 @@
-/* Key pages, read anew from document 01, "Key page" and "Numbers given back". Every length is taken in 64 bits. */
+/*
+ * Key pages, read anew from document 01, "Key page" and "Numbers given back", and document 02, No. 2. Every length is
+ * taken in 64 bits.
+ */
 #ifndef PAGES_H
 #define PAGES_H
 
@@ -30,6 +33,12 @@ static inline struct bytes page_name(unsigned format, struct bytes key)
         return key;
     identifier.at = key.at + 4, identifier.len = get(key.at + 2, 2);
     return identifier;
+}
+
+/* The type of the row that such a KEY part asks for: a reference's is that of data, a wrapped key's its KEK type. */
+static inline unsigned page_type(unsigned format, struct bytes key)
+{
+    return format == REFERENCE ? DATA_TYPE : two(key.at);
 }
 
 /* Whether a KEY part keeps the layout of its format, apart from the KEK type and the maximum; of an unknown format, all do. */
@@ -115,10 +124,10 @@ static inline int page_load(struct bytes *w, struct bytes out, unsigned long lon
         memcpy(key, part.at, PAGE_KEY);
     } else {
         name = page_name(format, part);
-        row = row_named(w[0], name.at, name.len);
+        row = row_for(w[0], page_type(format, part), name.at, name.len);
         if (!row)
             return 6;
-        if (row[1] != (format == REFERENCE ? w[1].at[8] : 3))
+        if (format == REFERENCE && row[1] != w[1].at[8])
             return 7;
         if (format == REFERENCE)
             memcpy(key, row + 40, PAGE_KEY);

@@ -1,6 +1,6 @@
 /*
- * Records, read anew from document 01, "Record" and "Numbers given back". Every length and every sum of lengths is
- * taken in 64 bits.
+ * Records, read anew from document 01, "Record" and "Numbers given back", and document 02, No. 2. Every length and every
+ * sum of lengths is taken in 64 bits.
  */
 #ifndef RECORDS_H
 #define RECORDS_H
@@ -83,11 +83,9 @@ static inline int seal(struct bytes *w, struct bytes out)
         return 4;
     if (out.len < HEADER + w[1].len + IV + w[4].len + TAG)
         return 5;
-    row = row_named(w[0], w[1].at, w[1].len);
+    row = row_for(w[0], DATA_TYPE, w[1].at, w[1].len);
     if (!row)
         return 6;
-    if (row[1] != 1 && row[1] != 2)
-        return 7;
     key.at = row + 40, key.len = 32;
     front = front_of(row[1], w[1], w[4].len);
     record = record_of(row[1] == 1, key, front, w[2], w[3], w[4]);
@@ -113,7 +111,7 @@ static inline int open_record(struct bytes *w, struct bytes out, unsigned long l
     if (out.len < text.len)
         return 5;
     front.at = r.at, front.len = HEADER + get(r.at + 10, 2);
-    row = row_named(w[0], r.at + HEADER, front.len - HEADER);
+    row = row_for(w[0], DATA_TYPE, r.at + HEADER, front.len - HEADER);
     if (!row)
         return 6;
     if (row[1] != r.at[2])

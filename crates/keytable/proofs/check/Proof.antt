@@ -9,7 +9,7 @@ use borrow.Author.Tests.{not-true, not-false}
 use lib.ListN.{length}
 use Rattle.octets.specs.Tests.{all}
 use Rattle.keytable.specs.Row.{rowOk}
-use Rattle.keytable.specs.Table.{rowPlace, headOk, rowCount, rowsOf}
+use Rattle.keytable.specs.Table.{rowPlace, headOk, rowCount, rowParts}
 use Rattle.keytable.proofs.Accepted.{head-total}
 use Rattle.keytable.proofs.Calls.{table-refused, table-accepted}
 use Rattle.keytable.proofs.check.Statement.{statement}
@@ -30,7 +30,7 @@ count : (c : tie.After-read16)
 count c =
     (head-total _ (head (c .before)) ∙ ap rowPlace (sym (c .read16 .ensures .0)), c .read16 .ensures .0)
 
-rows-kept : (c : tie.Else2) → all rowOk (rowsOf (table (c .before .before .before))) ≡ true
+rows-kept : (c : tie.Else2) → all rowOk (rowParts (table (c .before .before .before))) ≡ true
 rows-kept c = sym (c .before .rows-ok .ensures) ∙ not-false _ (c .if2 .left)
 
 rows-ok-requires : tie.Need-rows-ok-requires
@@ -39,16 +39,16 @@ rows-ok-requires c κs = count c
 returns-2 : tie.Need-returns-2
 returns-2 c = sym (table-refused _ 1 (sym (c .before .rows-ok .ensures) ∙ not-true _ (c .if2 .taken)))
 
-names-differ-requires : tie.Need-names-differ-requires
-names-differ-requires c κs = count (c .before .before)
+rows-differ-requires : tie.Need-rows-differ-requires
+rows-differ-requires c κs = count (c .before .before)
 
 returns-3 : tie.Need-returns-3
-returns-3 c = sym (table-refused _ 2 (sym (c .before .names-differ .ensures) ∙ not-true _ (c .if3 .taken)))
+returns-3 c = sym (table-refused _ 2 (sym (c .before .rows-differ .ensures) ∙ not-true _ (c .if3 .taken)))
 
 returns-4 : tie.Need-returns-4
 returns-4 c =
     let at-read = c .before .before .before .before in
-    let differ = sym (c .before .names-differ .ensures) ∙ not-false _ (c .if3 .left) in
+    let differ = sym (c .before .rows-differ .ensures) ∙ not-false _ (c .if3 .left) in
     rw (at-read .read16 .ensures .0) (sym (table-accepted _ (head (at-read .before)) (rows-kept (c .before .before)) differ))
 
 pub check-spec : {M : Type 1} → statement M
@@ -60,6 +60,6 @@ check-spec =
     (λ c κs. search needs)
     rows-ok-requires
     returns-2
-    names-differ-requires
+    rows-differ-requires
     returns-3
     returns-4)

@@ -45,7 +45,7 @@ returns-3 c =
     let at-load = c .before .before in
     let known = at-load .before .before in
     let a = start (known .before .before) .args in
-    ap (λ (f : ℕ). partAnswer (rowNamed (a .table .now) f (a .s .now)) (a .algorithm) f (a .s .now) (a .out .now)) (wrapped-format known) ∙ at-load .load-wrapped .ensures
+    ap (λ (f : ℕ). partAnswer (rowNamed (a .table .now) f (a .s .now)) (a .algorithm) f (a .s .now) (a .out .now)) (wrapped-format known) ∙ at-load .load-wrapped .ensures (a .algorithm)
 
 pub load-part-spec : {M : Type 1} → statement M
 load-part-spec =

@@ -8,13 +8,13 @@ use native.Mathlib.Omega.{arith}
 use lib.ListN.{drop}
 use Rattle.octets.specs.Tests.{all}
 use Rattle.keytable.specs.Row.{rowOk}
-use Rattle.keytable.specs.Table.{rowsOf}
+use Rattle.keytable.specs.Table.{rowParts}
 use Rattle.keytable.proofs.Accepted.{rows-stop, rows-turn, rows-end}
 use Rattle.keytable.proofs.rows.rows_ok.Statement.{statement}
 use Rattle.keytable.proofs.rows.rows_ok.Tie as tie
 
 abbrev Inv-loop : tie.InvT-loop
-Inv-loop t r i₀ i = (i ≤ r) × (all rowOk (rowsOf t) ≡ all rowOk (drop i (rowsOf t)))
+Inv-loop t r i₀ i = (i ≤ r) × (all rowOk (rowParts t) ≡ all rowOk (drop i (rowParts t)))
 
 abbrev μ-loop : tie.MeasureT-loop
 μ-loop t r i₀ i = r - i

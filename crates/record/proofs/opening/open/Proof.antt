@@ -15,7 +15,7 @@ use types.Run.{OneOf}
 use denote.Enum.Declared.{tagOf, declared}
 use Rattle.octets.specs.Tests.{partOf}
 use Rattle.octets.proofs.Places.{its-bytes}
-use Rattle.keytable.specs.Row.{rowKeySize, useOf, rowKey}
+use Rattle.keytable.specs.Row.{rowKeySize, dataType, Row}
 use Rattle.keytable.specs.Table.{tableOk, dataRow, rowAt}
 use Rattle.keytable.proofs.Calls.{rows-accepted, broken-refused}
 use Rattle.keytable.proofs.RowFound.{no-row, the-row, row-key}
@@ -88,16 +88,16 @@ module _ (c : tie.After-at) where
   abbrev past : tie.Else2
   past = c .before .before .before .before
 
-  abbrev row : List ℕ
+  abbrev row : Row
   row = rowAt (table (known past)) (c .at .given .0 .0)
 
   has : dataRow (table (known past)) (nameIn (sealed (known past))) ≡ some row
   has =
       let at-find = c .before .before in
-      ap (dataRow _) (sym (name-is (at-find .before))) ∙ the-row _ _ _ (table-good (checked (known past))) (at-find .find .ensures) _ (c .at .given .1)
+      ap (dataRow _) (sym (name-is (at-find .before))) ∙ the-row _ dataType _ _ (table-good (checked (known past))) (at-find .find .ensures) _ (c .at .given .1)
 
-  key-long : length (rowKey row) ≡ rowKeySize
-  key-long = let at-find = c .before .before in row-key _ _ _ (table-good (checked (known past))) (at-find .find .ensures) _ (c .at .given .1)
+  key-long : length (row .rowKey) ≡ rowKeySize
+  key-long = let at-find = c .before .before in row-key _ dataType _ _ (table-good (checked (known past))) (at-find .find .ensures) _ (c .at .given .1)
 
 -- past the mode: its answer, by the row's own key
 module _ (c : tie.After-open-by) where
@@ -107,16 +107,16 @@ module _ (c : tie.After-open-by) where
   abbrev opened : tie.After-known-told
   opened = known (past at)
 
-  same-use : eqb (useOf (row at)) (modeIn (sealed opened)) ≡ true
+  same-use : eqb (row at .rowUse) (modeIn (sealed opened)) ≡ true
   same-use =
       let not-other = c .before .before .before in
       ap₂ eqb (sym (not-other .before .use-at .ensures)) (sym (is-read opened .mode-is)) ∙ eq-eqb _ _ (not-other .if3 .left)
 
   abbrev authentic : Bool
-  authentic = authenticBy (rowKey (row at)) (sealed opened) (start (checked opened) .args .aad .now)
+  authentic = authenticBy (row at .rowKey) (sealed opened) (start (checked opened) .args .aad .now)
 
   abbrev plain : List ℕ
-  plain = plaintextBy (rowKey (row at)) (sealed opened)
+  plain = plaintextBy (row at .rowKey) (sealed opened)
 
 returns : tie.Need-returns
 returns c = open-one _ _ _ _ _ _ (broken-refused _ _ (c .before .before .check .ensures) (c .enum-told2 .given .1))
@@ -151,7 +151,7 @@ returns-5 c =
     let at-part = at-find .before in
     let past = at-part .before in
     open-six _ _ _ _ _ _ (measured past)
-    (ap (dataRow _) (sym (name-is at-part)) ∙ no-row _ _ (at-find .find .result) (table-good (checked (known past))) (at-find .find .ensures) (c .match3 .keys2))
+    (ap (dataRow _) (sym (name-is at-part)) ∙ no-row _ dataType _ (at-find .find .result) (table-good (checked (known past))) (at-find .find .ensures) (c .match3 .keys2))
 
 returns-6 : tie.Need-returns-6
 returns-6 c =

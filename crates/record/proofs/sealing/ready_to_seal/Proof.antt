@@ -2,28 +2,27 @@
 -- Assumes nothing.
 use mathlib.Core.Path.{_≡_, sym, ap, ap₂, _∙_}
 use mathlib.Core.Bool.{Bool, true, false, _||_}
-use mathlib.Core.Option.{Option, some}
-use mathlib.Core.List.{List}
+use mathlib.Core.Option.{Option}
 use Prim.Native.Nat.{ℕ, _+_, _≤_}
 use native.Mathlib.Omega.{arith}
 use borrow.Author.Needs.{needs}
-use borrow.Author.Tests.{lt-ltb, le-ltb, not-true, not-false}
+use borrow.Author.Tests.{lt-ltb, le-ltb}
 use lib.Dec.{eqb, ltb}
 use lib.ListN.{length}
 use Rattle.octets.specs.Lent.{isNot}
-use Rattle.keytable.specs.Row.{nameMax}
-use Rattle.keytable.specs.Table.{tableOk, dataRow, rowAt}
+use Rattle.keytable.specs.Row.{nameMax, dataType, Row}
+use Rattle.keytable.specs.Table.{tableOk, dataRow}
 use Rattle.keytable.specs.Calls.{useIn}
 use Rattle.keytable.specs.Find.{rowFound}
 use Rattle.keytable.proofs.Calls.{rows-accepted, broken-refused}
 use Rattle.keytable.proofs.Laws.{finds-row}
 use Rattle.keytable.proofs.RowFound.{not-found}
 use Rattle.modes.specs.Calls.{textMax}
-use Rattle.modes.specs.Modes.{namesMode, modeOf}
+use Rattle.modes.specs.Modes.{modeOf}
 use Rattle.record.specs.Record.{ivAt}
 use Rattle.record.specs.Seal.{callersMax, sealedSize}
 use Rattle.record.proofs.Lengths.{iv-small, tag-small, tooLong, within-maxima}
-use Rattle.record.proofs.SealNumbers.{wrongLength, SealMeasured, ready-one, ready-two, ready-four, ready-five, ready-six, ready-seven, ready-zero}
+use Rattle.record.proofs.SealNumbers.{wrongLength, SealMeasured, ready-one, ready-two, ready-four, ready-five, ready-six, ready-zero}
 use Rattle.record.proofs.sealing.ready_to_seal.Statement.{statement}
 use Rattle.record.proofs.sealing.ready_to_seal.Tie as tie
 
@@ -35,14 +34,14 @@ module _ (c : tie.After-iv-size) where
   abbrev start : tie.Start
   start = looked .before .before .before .before .before .before .before .before
 
-  abbrev row : Option (List ℕ)
+  abbrev row : Option Row
   row = dataRow (start .args .table .now) (start .args .name .now)
 
   good : tableOk (start .args .table .now) ≡ true
   good = rows-accepted _ _ _ (looked .before .before .before .check .ensures) (looked .before .enum-told .given .1)
 
   row-is : row ≡ rowFound (start .args .table .now) (looked .find .result)
-  row-is = finds-row _ _ (looked .find .result) good (looked .find .ensures)
+  row-is = finds-row _ dataType _ (looked .find .result) good (looked .find .ensures)
 
   use-is : c .before .use-found .result ≡ useIn row
   use-is = c .before .use-found .ensures ∙ ap useIn (sym row-is)
@@ -95,17 +94,6 @@ module _ (c : tie.Else3) where
         fits = room tagged false (le-ltb _ _ (c .if3 .left));
       }
 
--- past the row's: its use is a mode or not
-module _ (c : tie.After-names-mode) where
-  abbrev roomy : tie.Else3
-  roomy = c .before .before .before .before
-
-  has : row (found-at roomy) ≡ some (rowAt (start (found-at roomy) .args .table .now) (c .before .before .found .given .0 .0))
-  has = row-is (found-at roomy) ∙ ap (rowFound _) (c .before .before .found .given .1)
-
-  named : (b : Bool) → c .names-mode .result ≡ b → namesMode (useIn (row (found-at roomy))) ≡ b
-  named b e = ap namesMode (sym (use-is (found-at roomy))) ∙ (sym (c .names-mode .ensures) ∙ e)
-
 returns : tie.Need-returns
 returns c = ready-one _ _ _ _ _ _ _ (broken-refused _ _ (c .before .before .check .ensures) (c .enum-told2 .given .1))
 
@@ -141,13 +129,8 @@ returns-5 c =
 
 returns-6 : tie.Need-returns-6
 returns-6 c =
-    let s = c .before in
-    ready-seven _ _ _ _ _ _ _ (measured (roomy s)) _ (has s) (named s false (not-true (s .names-mode .result) (c .if4 .taken)))
-
-returns-7 : tie.Need-returns-7
-returns-7 c =
-    let s = c .before in
-    ready-zero _ _ _ _ _ _ _ (measured (roomy s)) _ (has s) (named s true (not-false (s .names-mode .result) (c .if4 .left)))
+    let past = c .before .before .before in
+    ready-zero _ _ _ _ _ _ _ (measured past) _ (row-is (found-at past) ∙ ap (rowFound _) (c .before .found .given .1))
 
 pub ready-to-seal-spec : {M : Type 1} → statement M
 ready-to-seal-spec =
@@ -171,6 +154,4 @@ ready-to-seal-spec =
     returns-4
     (λ c. search needs)
     returns-5
-    (λ c κs. search needs)
-    returns-6
-    returns-7)
+    returns-6)

@@ -8,7 +8,7 @@ use lib.ListN.{length}
 use borrow.Author.Needs.{needs}
 use Rattle.octets.specs.Lent.{over}
 use Rattle.octets.proofs.Places.{its-bytes}
-use Rattle.keytable.specs.Row.{useOf}
+use Rattle.keytable.specs.Row.{dataType, Row}
 use Rattle.keytable.specs.Table.{tableOk, dataRow, rowAt}
 use Rattle.keytable.proofs.Laws.{rowFor-good}
 use Rattle.record.specs.Seal.{recordOf, recordBy}
@@ -34,8 +34,8 @@ fill-requires c κs =
     let at-use = at-key .before in
     let a = start at-use .args in
     let h = able at-use in
-    let use-is = at-use .use-at .ensures ∙ ap useOf (sym (ready-same _ _ _ _ _ _ _ _ (start at-use .pre))) in (
-      ap length (its-bytes (at-key .key-at .ensures)) ∙ rowFor-good (a .table .now) (a .name .now) _ (h .accepted) (found at-use) .key-size,
+    let use-is = at-use .use-at .ensures ∙ ap (λ (x : Row). x .rowUse) (sym (ready-same _ _ _ _ _ _ _ _ (start at-use .pre))) in (
+      ap length (its-bytes (at-key .key-at .ensures)) ∙ rowFor-good (a .table .now) dataType (a .name .now) _ (h .accepted) (found at-use) .key-size,
       h .name-fits,
       rw use-is (h .iv-size),
       rw use-is (h .permitted),
@@ -52,7 +52,7 @@ returns c =
     let a = start at-use .args in
     done .fill .ensures
     ∙ ap₂ (λ (u : ℕ) (key : List ℕ). over (recordOf u key (a .name .now) (a .iv .now) (a .aad .now) (a .plain .now)) (a .out .now)) (at-use .use-at .ensures) (its-bytes (at-key .key-at .ensures))
-    ∙ ap (λ (o : Option (List ℕ)). over (recordBy o (a .name .now) (a .iv .now) (a .aad .now) (a .plain .now)) (a .out .now)) (sym (found at-use))
+    ∙ ap (λ (o : Option Row). over (recordBy o (a .name .now) (a .iv .now) (a .aad .now) (a .plain .now)) (a .out .now)) (sym (found at-use))
 
 pub write-spec : {M : Type 1} → statement M
 write-spec = tie.close (tie.spec (λ c κs. search needs) (λ c κs. search needs) fill-requires (λ c. search needs) returns)
