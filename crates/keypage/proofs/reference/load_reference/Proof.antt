@@ -8,7 +8,6 @@ use borrow.Author.Tests.{eq-eqb, ne-eqb}
 use lib.Dec.{eqb}
 use Rattle.octets.specs.Lent.{over}
 use Rattle.octets.proofs.Places.{its-bytes}
-use Rattle.keytable.specs.Row.{dataType}
 use Rattle.keytable.specs.Table.{dataRow, rowAt}
 use Rattle.keypage.proofs.LoadNumbers.{reference-six, reference-seven, reference-zero}
 use Rattle.keytable.proofs.RowFound.{no-row, the-row}
@@ -22,14 +21,14 @@ start c = c .before .before .before .before
 found : (c : tie.After-at) → let a = start (c .before .before) .args in dataRow (a .table .now) (a .s .now) ≡ some (rowAt (a .table .now) (c .at .given .0 .0))
 found c =
     let at-find = c .before .before in
-    the-row _ dataType _ _ (start at-find .pre .0) (at-find .find .ensures) _ (c .at .given .1)
+    the-row _ _ _ _ (start at-find .pre .0) (at-find .find .ensures) _ (c .at .given .1)
 
 returns : tie.Need-returns
 returns c =
     let at-find = c .before in
     let from = start at-find in
     let a = from .args in
-    reference-six _ (a .algorithm) (a .s .now) (a .out .now) (no-row _ dataType _ (at-find .find .result) (from .pre .0) (at-find .find .ensures) (c .match .keys2))
+    reference-six _ (a .algorithm) (a .s .now) (a .out .now) (no-row _ _ _ (at-find .find .result) (from .pre .0) (at-find .find .ensures) (c .match .keys2))
 
 returns-2 : tie.Need-returns-2
 returns-2 c =

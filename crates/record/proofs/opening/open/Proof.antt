@@ -17,6 +17,7 @@ use Rattle.octets.specs.Tests.{partOf}
 use Rattle.octets.proofs.Places.{its-bytes}
 use Rattle.keytable.specs.Row.{rowKeySize, dataType, Row}
 use Rattle.keytable.specs.Table.{tableOk, dataRow, rowAt}
+use Rattle.keytable.specs.Find.{foundSays, foundAnswer}
 use Rattle.keytable.proofs.Calls.{rows-accepted, broken-refused}
 use Rattle.keytable.proofs.RowFound.{no-row, the-row, row-key}
 use Rattle.record.specs.Record.{nameAt, modeIn, countIn, nameSize, nameIn}
@@ -83,6 +84,10 @@ name-is : (c : tie.After-part) → c .part .result .now ≡ nameIn (sealed (know
 unfolding nameIn
 name-is c = c .part .ensures ∙ ap (partOf (sealed (known (c .before))) nameAt) (is-read (known (c .before)) .size-is)
 
+-- what was looked up is what the table has for the data row of the name
+found-is : (c : tie.After-find) → foundSays (c .find .result) ≡ foundAnswer (table (known (c .before .before))) dataType (c .before .part .result .now)
+found-is c = c .find .ensures
+
 -- past the lookup: the row that was found is that of the record's name
 module _ (c : tie.After-at) where
   abbrev past : tie.Else2
@@ -94,10 +99,10 @@ module _ (c : tie.After-at) where
   has : dataRow (table (known past)) (nameIn (sealed (known past))) ≡ some row
   has =
       let at-find = c .before .before in
-      ap (dataRow _) (sym (name-is (at-find .before))) ∙ the-row _ dataType _ _ (table-good (checked (known past))) (at-find .find .ensures) _ (c .at .given .1)
+      ap (dataRow _) (sym (name-is (at-find .before))) ∙ the-row _ _ _ _ (table-good (checked (known past))) (found-is at-find) _ (c .at .given .1)
 
   key-long : length (row .rowKey) ≡ rowKeySize
-  key-long = let at-find = c .before .before in row-key _ dataType _ _ (table-good (checked (known past))) (at-find .find .ensures) _ (c .at .given .1)
+  key-long = let at-find = c .before .before in row-key _ _ _ _ (table-good (checked (known past))) (found-is at-find) _ (c .at .given .1)
 
 -- past the mode: its answer, by the row's own key
 module _ (c : tie.After-open-by) where
@@ -151,7 +156,7 @@ returns-5 c =
     let at-part = at-find .before in
     let past = at-part .before in
     open-six _ _ _ _ _ _ (measured past)
-    (ap (dataRow _) (sym (name-is at-part)) ∙ no-row _ dataType _ (at-find .find .result) (table-good (checked (known past))) (at-find .find .ensures) (c .match3 .keys2))
+    (ap (dataRow _) (sym (name-is at-part)) ∙ no-row _ _ _ (at-find .find .result) (table-good (checked (known past))) (found-is at-find) (c .match3 .keys2))
 
 returns-6 : tie.Need-returns-6
 returns-6 c =

@@ -10,7 +10,7 @@ use borrow.Author.Tests.{lt-ltb, le-ltb}
 use lib.Dec.{eqb, ltb}
 use lib.ListN.{length}
 use Rattle.octets.specs.Lent.{isNot}
-use Rattle.keytable.specs.Row.{nameMax, dataType, Row}
+use Rattle.keytable.specs.Row.{nameMax, Row}
 use Rattle.keytable.specs.Table.{tableOk, dataRow}
 use Rattle.keytable.specs.Calls.{useIn}
 use Rattle.keytable.specs.Find.{rowFound}
@@ -41,7 +41,7 @@ module _ (c : tie.After-iv-size) where
   good = rows-accepted _ _ _ (looked .before .before .before .check .ensures) (looked .before .enum-told .given .1)
 
   row-is : row ≡ rowFound (start .args .table .now) (looked .find .result)
-  row-is = finds-row _ dataType _ (looked .find .result) good (looked .find .ensures)
+  row-is = finds-row _ _ _ (looked .find .result) good (looked .find .ensures)
 
   use-is : c .before .use-found .result ≡ useIn row
   use-is = c .before .use-found .ensures ∙ ap useIn (sym row-is)
