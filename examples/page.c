@@ -1,9 +1,9 @@
 /*
  * Loads keys from key pages of the three formats, wrapped ones by two key-encrypting keys of one name, which differ in
- * their type. Then it shows each refusal that a load can give, 1 to 9, and runs an IV session to its end, 10. A line says
- * what was tried, and the number that came with its meaning. The number that is expected stands beside each call below;
- * the program ends with status 1 where another came, or where a refusal changed the output. Built and run by
- * `examples/run page`; examples/page.txt is what it prints.
+ * their type. Then it shows each refusal that a load can give, 1 to 9, tests a descriptor list, strict and not, and runs
+ * an IV session to its end, 10. A line says what was tried, and the number that came with its meaning. The number that is
+ * expected stands beside each call below; the program ends with status 1 where another came, or where a refusal changed
+ * the output. Built and run by `examples/run page`; examples/page.txt is what it prints.
  */
 #include "answers.h"
 
@@ -95,6 +95,9 @@ static void refused(struct key key)
     expect("a page one byte short", SPADESWIRL_BAD_LAYOUT, load(set_page(PLAIN_KEY, plain) - 1, 32));
     w = plain, w.len = 31;
     expect("a key of 31 bytes", SPADESWIRL_BAD_LAYOUT, load(set_page(PLAIN_KEY, w), 32));
+    len = set_page(PLAIN_KEY, plain), page[HEAD + plain.len] = 0x30;
+    expect("a descriptor of type 30h, which is reserved", SPADESWIRL_BAD_LAYOUT, load(len, 32));
+    expect("the same, and an output of 31 bytes", SPADESWIRL_BAD_LAYOUT, load(len, 31));
     len = set_page(PLAIN_KEY, plain), page[4] = 3 << 5;
     expect("SCOPE 3", SPADESWIRL_NOT_PERMITTED, load(len, 32));
     expect("KEY FORMAT 02h", SPADESWIRL_NOT_PERMITTED, load(set_page(0x02, plain), 32));
@@ -117,6 +120,21 @@ static void refused(struct key key)
     expect("one bit of the wrapped key changed", SPADESWIRL_NOT_AUTHENTIC, load_wrapped(DS_SAI, "SITE-KEK1", w));
     expect("wrapped by SITE-KEK1 of type 2, on a page of KEK type 1", SPADESWIRL_NOT_AUTHENTIC,
            load_wrapped(DS_SAI, "SITE-KEK1", key.by_assigned));
+}
+
+static void lists(void)
+{
+    static const uint8_t list[] = { 0x00, 0, 0, 1, 7, 0x30, 0, 0, 1, 42, 0xc0, 0, 0, 2, 8, 9 };
+    uint64_t count = 0, at[2] = { 0, 0 };
+
+    puts("\na page's descriptor list by itself, with types 00h, 30h and C0h:");
+    fresh_out();
+    expect("tested strict, as on a page", SPADESWIRL_BAD_LAYOUT, spadeswirl_list_check(list, sizeof list, 0, &count));
+    expect("tested not strict", SPADESWIRL_DONE, spadeswirl_list_check_as(list, sizeof list, 0, 0, &count));
+    for (uint64_t i = 0; i < count; i++) {
+        expect("a step, not strict", SPADESWIRL_DONE, spadeswirl_list_step(list, sizeof list, 0, 0, at[1], at));
+        printf("type %02Xh, bytes %u-%u\n", list[at[0]], (unsigned)at[0], (unsigned)at[1] - 1);
+    }
 }
 
 static void session(void)
@@ -159,6 +177,7 @@ int main(void)
     expect("and by SITE-KEK1 of type 2", SPADESWIRL_DONE, wrap(assigned, key.itself, by_assigned));
     loads(key);
     refused(key);
+    lists();
     session();
     putchar('\n');
     return all_as_expected();

@@ -54,7 +54,7 @@ extern "C" {
 enum {
     SPADESWIRL_DONE = 0,
     SPADESWIRL_BAD_TABLE = 1,          /* the key table is not accepted */
-    SPADESWIRL_BAD_LAYOUT = 2,         /* other bytes break their layout, or a lent length is wrong */
+    SPADESWIRL_BAD_LAYOUT = 2,         /* other bytes break their layout, a type is reserved, or a lent length is wrong */
     SPADESWIRL_NOT_PERMITTED = 3,      /* a mode, field, KEK type or format that is not known */
     SPADESWIRL_OVER_MAXIMUM = 4,
     SPADESWIRL_SHORT_OUTPUT = 5,
@@ -136,7 +136,7 @@ enum {
     SPADESWIRL_FIELD_ALGORITHM_INDEX,
     SPADESWIRL_FIELD_KEY_FORMAT,
     SPADESWIRL_FIELD_KEY_LENGTH,
-    SPADESWIRL_FIELD_DESCRIPTORS,      /* how many the page has that are not reserved */
+    SPADESWIRL_FIELD_DESCRIPTORS,      /* how many the page has, none of them reserved */
     SPADESWIRL_FIELDS
 };
 
@@ -295,31 +295,45 @@ uint8_t spadeswirl_record_check(const uint8_t *record, size_t record_len);
 
 /*
  * Tests a descriptor list, of a page or (label not 0) of a label, and stores
- * how many of its descriptors are not reserved. Numbers: 0; 2, with strict not
- * 0 for a reserved type too. A list has no maximum.
+ * how many descriptors it has. It is strict: a reserved type is refused. Those
+ * are 04h to BFh on a page, and 05h to BFh on a label. Numbers: 0; 2, for a
+ * reserved type too. A list has no maximum.
  */
 uint8_t spadeswirl_list_check(const uint8_t *list, size_t list_len,
-                              uint8_t label, uint8_t strict, uint64_t *count);
+                              uint8_t label, uint64_t *count);
+
+/*
+ * The same for a caller that says whether it is strict. With strict 0 reserved
+ * types are passed over: it stores how many descriptors are not reserved. With
+ * any other it is spadeswirl_list_check. Numbers: 0; 2, with strict not 0 for a
+ * reserved type too.
+ */
+uint8_t spadeswirl_list_check_as(const uint8_t *list, size_t list_len,
+                                 uint8_t label, uint8_t strict, uint64_t *count);
 
 /*
  * Steps along a list from a place: stores where the next descriptor that is not
  * reserved starts and ends, or the place twice where none is left. The step
- * after it goes from that end. Numbers: 0, 2.
+ * after it goes from that end. Numbers: 0; 2, with strict not 0 for a reserved
+ * type that it meets too.
  */
 uint8_t spadeswirl_list_step(const uint8_t *list, size_t list_len,
                              uint8_t label, uint8_t strict, uint64_t place,
                              uint64_t shown[2]);
 
 /*
- * Tests a label, and stores how many of its descriptors are not reserved.
- * Numbers: 0, 2, 4. Its list begins after SPADESWIRL_LABEL_HEADER_BYTES.
+ * Tests a label, and stores how many of its descriptors are not reserved. Its
+ * list begins after SPADESWIRL_LABEL_HEADER_BYTES, and is tested as by
+ * spadeswirl_list_check_as with strict 0, since key managers put reserved types
+ * into labels. Numbers: 0, 2, 4.
  */
 uint8_t spadeswirl_label_check(const uint8_t *label, size_t label_len,
                                uint64_t *count);
 
 /*
  * Reads a key page (SSC-3, Set Data Encryption) by itself, and stores its
- * fields. Numbers: 0, 2, 3, 4.
+ * fields. Its descriptor list is tested as by spadeswirl_list_check. Numbers: 0;
+ * 2, for a reserved type too; 3; 4.
  */
 uint8_t spadeswirl_page_read(const uint8_t *page, size_t page_len,
                              uint64_t fields[SPADESWIRL_FIELDS]);

@@ -169,6 +169,7 @@ static void pages(void)
         [SPADESWIRL_FIELD_DECRYPTION_MODE] = 3, [SPADESWIRL_FIELD_ALGORITHM_INDEX] = SPADESWIRL_GCM, [SPADESWIRL_FIELD_KEY_FORMAT] = SPADESWIRL_FORMAT_REFERENCE,
         [SPADESWIRL_FIELD_KEY_LENGTH] = SPADESWIRL_REFERENCE_MIN, [SPADESWIRL_FIELD_DESCRIPTORS] = 1
     };
+    static const uint8_t reserved[] = { 0x30, 0, 0, 0 };
     uint64_t count = 0;
     says("PAGE_MAX", page(SPADESWIRL_FORMAT_REFERENCE, 0, SPADESWIRL_REFERENCE_MIN, SPADESWIRL_PAGE_MAX) == SPADESWIRL_DONE);
     says("the places of the fields", memcmp(fields, wanted, sizeof fields) == 0);
@@ -181,6 +182,12 @@ static void pages(void)
     says("KEK_ASSIGNED", page_with(SPADESWIRL_FORMAT_WRAPPED, SPADESWIRL_KEK_ASSIGNED, 5 + WRAPPED) == SPADESWIRL_DONE);
     says("NOT_PERMITTED", page_with(SPADESWIRL_FORMAT_WRAPPED, 3, 5 + WRAPPED) == SPADESWIRL_NOT_PERMITTED
          && page_with(2, 0, K) == SPADESWIRL_NOT_PERMITTED);
+    says("BAD_LAYOUT of a reserved type", spadeswirl_list_check(LENT(reserved), 0, &count) == SPADESWIRL_BAD_LAYOUT
+         && spadeswirl_list_check(LENT(reserved), 1, &count) == SPADESWIRL_BAD_LAYOUT
+         && spadeswirl_list_check_as(LENT(reserved), 0, 1, &count) == SPADESWIRL_BAD_LAYOUT
+         && spadeswirl_list_check_as(LENT(reserved), 1, 1, &count) == SPADESWIRL_BAD_LAYOUT);
+    says("DONE of a reserved type, where that is asked for", spadeswirl_list_check_as(LENT(reserved), 0, 0, &count) == SPADESWIRL_DONE && count == 0
+         && spadeswirl_list_check_as(LENT(reserved), 1, 0, &count) == SPADESWIRL_DONE && count == 0);
     says("LABEL_MAX", label(SPADESWIRL_LABEL_MAX, &count) == SPADESWIRL_DONE && count == 4
          && label(SPADESWIRL_LABEL_MAX + 1, &count) == SPADESWIRL_OVER_MAXIMUM);
 }

@@ -1,6 +1,6 @@
 # shellcheck shell=bash disable=SC2034,SC2086,SC2154
 # Sourced by tests/console: the descriptors of labels and of key pages, a line each after their count: type, length and bytes in capital
-# digits, - for no bytes. Reserved ones are not shown.
+# digits, - for no bytes. A label's reserved ones are not shown, and a page with one is refused with 2.
 
 # ---- labels
 
@@ -61,32 +61,54 @@ gives "the same, cut within its last descriptor" 2 label "$room/cut"
 # ---- key pages
 
 gives "descriptors, none" 0 descriptors examples/pages/wrapped.bin
-gives "descriptors, and one that is reserved" 0 descriptors examples/pages/plain.bin
+gives "descriptors, two" 0 descriptors examples/pages/plain.bin
+gives "descriptors, 30h in place of 03h" 2 descriptors examples/pages/reserved.bin
 input=examples/pages/plain.bin
 gives "descriptors on standard input" 0 descriptors examples/pages/plain.bin
 input=
 shows "no descriptor" descriptors examples/pages/wrapped.bin <<'TEXT'
 descriptors 0
 TEXT
-shows "two of a page's three" descriptors examples/pages/plain.bin <<'TEXT'
+shows "a page's two" descriptors examples/pages/plain.bin <<'TEXT'
 descriptors 2
 00 0001 07
 C0 0002 0809
 TEXT
 # page FILE: a page of format 00h with the descriptors of a file
 page() { hex 00 10 "$(printf '%04x' $((48 + $(wc -c <"$1"))))" 00 00 00 00 01 00; zeros 8; hex 00 20; zeros 32; cat "$1"; }
-{ descriptor 03 FE; descriptor 04 01; descriptor BF 01; descriptor C0; } >"$room/list"
+{ descriptor 00; descriptor 03 FE; descriptor C0; descriptor FF 30 00 00 00; } >"$room/list"
 page "$room/list" >"$room/page"
 shows "a page's types" descriptors "$room/page" <<'TEXT'
-descriptors 2
+descriptors 4
+00 0000 -
 03 0001 FE
 C0 0000 -
+FF 0004 30000000
 TEXT
+for type in 04 05 30 7F 80 BE BF; do
+    descriptor $type 01 >"$room/list"
+    page "$room/list" >"$room/page"
+    gives "a page with the reserved type $type" 2 descriptors "$room/page"
+    { descriptor 03 FE; descriptor $type; descriptor C0; } >"$room/list"
+    page "$room/list" >"$room/page"
+    gives "a page with the reserved type $type among others" 2 descriptors "$room/page"
+    { cat "$room/least"; [ $type = 04 ] || descriptor $type; descriptor FF; } >"$room/label"
+    gives "a label with the type $type" 0 label "$room/label"
+    [ "$(head -n 1 "$room/wrote")" = "descriptors 5" ]
+    test_that $? "a label with the type $type: $(head -n 1 "$room/wrote")"
+done
+descriptor 30 >"$room/list"
+page "$room/list" >"$room/page"
+with "$room/page" 8 03 >"$room/page3"
+gives "a page that is not permitted, with a reserved type" 2 descriptors "$room/page3"
 hex "$(printf '%02x000000' {0..255})" >"$room/list"
 page "$room/list" >"$room/page"
-gives "a page with every type" 0 descriptors "$room/page"
+gives "a page with every type" 2 descriptors "$room/page"
+hex "$(printf '%02x000000' {0..3} {192..255})" >"$room/list"
+page "$room/list" >"$room/page"
+gives "a page with every type that is not reserved" 0 descriptors "$room/page"
 [ "$(sed -n '1p; 6p; $p' "$room/wrote" | xargs)" = "descriptors 68 C0 0000 - FF 0000 -" ]
-test_that $? "a page with every type: $(sed -n '1p; 6p; $p' "$room/wrote" | xargs)"
+test_that $? "a page with every type that is not reserved: $(sed -n '1p; 6p; $p' "$room/wrote" | xargs)"
 for n in 4040 4041 65483; do
     { hex C0 00; hex "$(printf '%04x' "$n")"; some "$n"; } >"$room/list"
     page "$room/list" >"$room/page$n"
@@ -94,6 +116,8 @@ done
 gives "descriptors of a page of 4,096 bytes" 0 descriptors "$room/page4040"
 gives "descriptors of a page of 4,097 bytes" 4 descriptors "$room/page4041"
 gives "descriptors of a page of 65,539 bytes" 4 descriptors "$room/page65483"
+with "$room/page4041" 52 BF >"$room/reserved4041"
+gives "descriptors of a page of 4,097 bytes, and its type is reserved" 2 descriptors "$room/reserved4041"
 head -c 65538 "$room/page65483" >"$room/cut"
 gives "the same, a byte short" 2 descriptors "$room/cut"
 { cat "$room/page65483"; zeros 1; } >"$room/page65540"
@@ -123,3 +147,4 @@ beside() {
 }
 beside label label_check labels
 beside descriptors page_read pages
+beside descriptors page_read reserved

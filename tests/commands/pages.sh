@@ -35,7 +35,7 @@ list "document 01's page by its name" examples/pages/wrapped.bin </dev/null
 list "document 01's page on standard input by -" - <examples/pages/wrapped.bin
 list "a byte at a time" < <(slowly examples/pages/wrapped.bin)
 fields 1 1 1 3 1 0 32 2
-list "format 00h, a reserved descriptor" <examples/pages/plain.bin
+list "format 00h, two descriptors" <examples/pages/plain.bin
 fields 0 0 2 0 2 1 12 0
 list "format 01h" <examples/pages/reference.bin
 refused 3
@@ -43,11 +43,29 @@ list "an algorithm that is not permitted" <examples/pages/refused.bin
 list "the same by its name" examples/pages/refused.bin </dev/null
 
 refused 2
+list "30h in place of 03h" <examples/pages/reserved.bin
+list "the same by its name" examples/pages/reserved.bin </dev/null
 list "no page" </dev/null
 list "an empty file" /dev/null </dev/null
 list "zeros" < <(zeros 66)
 list "a byte short" < <(head -c 65 examples/pages/wrapped.bin)
 list "a byte more" < <(cat examples/pages/wrapped.bin; zeros 1)
+
+# listed TYPE: a page of format 00h with a descriptor of that type
+listed() { hex 00 10 00 35 00 00 00 00 01 00; zeros 8; hex 00 20; zeros 32; hex "$1" 00 00 01 2A; }
+for type in 04 05 30 7F 80 BE BF; do
+    refused 2
+    list "the reserved type $type" < <(listed $type)
+done
+for type in 00 03 C0 FF; do
+    fields 0 0 0 0 1 0 32 1
+    list "the type $type" < <(listed $type)
+done
+listed 30 >"$room/page"
+refused 2
+list "a reserved type, and an algorithm that is not permitted" < <(with "$room/page" 8 03)
+list "a reserved type, and a format that is not known" < <(with "$room/page" 9 02)
+list "a reserved type, and a reference of 33 bytes" < <(hex 00 10 00 35 00 00 00 00 01 01; zeros 8; hex 00 21; zeros 33; hex 30 00 00 00)
 
 # format 00h, a key of 32 bytes and a vendor's descriptor to the end: as many bytes in all as are asked for
 longest() { hex 00 10; hex "$(printf '%04x' $(($1 - 4)))"; hex 00 00 00 00 01 00; zeros 8; hex 00 20; zeros 32; hex C0 00; hex "$(printf '%04x' $(($1 - 56)))"; zeros $(($1 - 56)); }
@@ -60,13 +78,15 @@ refused 4
 list "4,097 bytes that keep to the layout" < <(longest 4097)
 list "4,097 bytes of zeros: no other test" <"$room/page4097"
 list "the same by their name" "$room/page4097" </dev/null
+longest 4097 >"$room/long"
+list "4,097 bytes with a reserved type: no other test" < <(with "$room/long" 52 30)
 list "100,000 bytes" < <(zeros 100000)
 list "4,096 bytes and one more later" < <(zeros 4096; sleep 0.2; zeros 1)
 list "format 04h with an identifier of 33 bytes" < <(hex 00 10 00 5D 00 00 02 02 02 04; zeros 8; hex 00 4D 00 01 00 21; zeros 73)
 fields 0 0 0 0 1 4 4076 0
 list "a KEY part of format 04h that fills the page" < <(hex 00 10 0F FC 00 00 00 00 01 04; zeros 8; hex 0F EC 00 01 00 01; zeros 4072)
 
-# ---- some 300 of the pages of the second program's lines, by the program alone: the text is that of the second program's answers
+# ---- some 500 of the pages of the second program's lines, by the program alone: the text is that of the second program's answers
 
 # Prints `NAME HEX TEXT`, with _ for a space and a comma after each line of the text. A page over 4,096 bytes is `refused 4` with no other test.
 page_texts() {
@@ -87,14 +107,16 @@ page_texts() {
         }'
 }
 
-"$folder/pages" "$seed" >"$room/lines" || give_up "tests/second/lines/pages.c did not write its lines"
-second_answers "$room/lines" "$room/answers"
-some_of page_read 150 50 "$room/lines" "$room/answers" | page_texts >"$room/some"
-[ "$(wc -l <"$room/some")" -ge 200 ]
-test_that $? "list-page: only $(wc -l <"$room/some") of the second program's lines"
-while read -r name digits wanted; do
-    hex "$digits" >"$room/page"
-    wrote=$(unit page_lister <"$room/page" 2>&1 | tr ' \n' '_,')
-    [ "$wrote" = "$wanted" ]
-    test_that $? "list-page, $name: wanted $wanted, got $wrote"
-done <"$room/some"
+for writer in pages reserved; do
+    "$folder/$writer" "$seed" >"$room/lines" || give_up "tests/second/lines/$writer.c did not write its lines"
+    second_answers "$room/lines" "$room/answers"
+    some_of page_read 150 50 "$room/lines" "$room/answers" | page_texts >"$room/some"
+    [ "$(wc -l <"$room/some")" -ge 200 ]
+    test_that $? "list-page: only $(wc -l <"$room/some") of the second program's lines"
+    while read -r name digits wanted; do
+        hex "$digits" >"$room/page"
+        wrote=$(unit page_lister <"$room/page" 2>&1 | tr ' \n' '_,')
+        [ "$wrote" = "$wanted" ]
+        test_that $? "list-page, $name: wanted $wanted, got $wrote"
+    done <"$room/some"
+done

@@ -54,7 +54,8 @@ static int call_find(struct asked a) { return find(a.w, sixteen_bits(a.n[0]), a.
 static int call_seal(struct asked a) { return seal(a.w, a.out); }
 static int call_open(struct asked a) { return open_record(a.w, a.out, a.stored); }
 static int call_record_check(struct asked a) { return record_check(a.w[0]); }
-static int call_list_check(struct asked a) { return list_check(a.w[0], a.n[0] != 0, a.n[1] != 0, a.stored); }
+static int call_list_check(struct asked a) { return list_check(a.w[0], a.n[0] != 0, a.stored); }
+static int call_list_check_as(struct asked a) { return list_check_as(a.w[0], a.n[0] != 0, a.n[1] != 0, a.stored); }
 static int call_list_step(struct asked a) { return list_step(a.w[0], a.n[0] != 0, a.n[1] != 0, a.n[2], a.stored); }
 static int call_label_check(struct asked a) { return label_check(a.w[0], a.stored); }
 static int call_page_read(struct asked a) { return page_read(a.w[0], a.stored); }
@@ -87,7 +88,8 @@ static const struct call {
     { "seal", 5, 0, OUTPUT, 0, call_seal },
     { "open", 3, 0, OUTPUT, 1, call_open },
     { "record_check", 1, 0, NOTHING, 0, call_record_check },
-    { "list_check", 1, 2, NOTHING, 1, call_list_check },
+    { "list_check", 1, 1, NOTHING, 1, call_list_check },
+    { "list_check_as", 1, 2, NOTHING, 1, call_list_check_as },
     { "list_step", 1, 3, NOTHING, 2, call_list_step },
     { "label_check", 1, 0, NOTHING, 1, call_label_check },
     { "page_read", 1, 0, NOTHING, PAGE_FIELDS, call_page_read },

@@ -19,12 +19,13 @@ use Rattle.descriptors.specs.Parse.{split}
 use Rattle.descriptors.specs.Tested.{unreserved}
 use Rattle.keypage.specs.Page.{listIn}
 use Rattle.keypage.specs.Read.{pageReadNumber}
+use Rattle.keypage.proofs.Reserved.{reserved-number}
 use Rattle.descriptor_text.specs.Lines.{descriptorLine, descriptorLines, listText}
 use Rattle.descriptor_text.specs.Described.{describedRoom, describedAs, labelDescribed, pageDescribed}
-use Rattle.descriptor_text.specs.Laws.{describedSays, DescribedFits, ExampleText, EmptyText, LabelFits, PageFits, LabelDescribedUnique, PageDescribedUnique}
+use Rattle.descriptor_text.specs.Laws.{describedSays, DescribedFits, ExampleText, EmptyText, ReservedDescribed, LabelFits, PageFits, LabelDescribedUnique, PageDescribedUnique}
 use Rattle.descriptor_text.specs.declared.Described.{Described}
 use Rattle.descriptor_text.proofs.Room.{text-length}
-use Rattle.descriptor_text.proofs.Texts.{label-list-ok, page-list-ok}
+use Rattle.descriptor_text.proofs.Texts.{label-list-ok, page-list-ok, page-refused}
 
 pub example-text : ExampleText
 unfolding listText descriptorLines descriptorLine digitsShown digitsOf digitOf decimal digitsWithin unreserved split sizeOf sizeSaid
@@ -33,6 +34,11 @@ example-text = refl
 pub empty-text : EmptyText
 unfolding listText descriptorLines decimal digitsWithin unreserved split
 empty-text = refl
+
+-- ---- a page with a reserved descriptor
+
+pub reserved-described : ReservedDescribed
+reserved-described p h = page-refused p 2 (sym (reserved-number p h)) (λ z. omega arith)
 
 -- ---- room
 

@@ -14,7 +14,7 @@ use Rattle.wording.specs.Ascii.{ascii}
 use Rattle.wording.specs.Lines.{line}
 use Rattle.wording.specs.Writing.{putAt, Wrote}
 use Rattle.wording.proofs.Wrote.{put-fits, wrote-front}
-use Rattle.descriptors.specs.Labels.{labelMax, listOf, labelNumber, labelAnswer}
+use Rattle.descriptors.specs.Labels.{labelMax, listOf, labelStrict, labelNumber, labelAnswer}
 use Rattle.descriptors.specs.Steps.{cursorAtStart, begunOf}
 use Rattle.descriptors.specs.Tested.{listOk, countOf}
 use Rattle.descriptors.specs.Laws.{Accepted}
@@ -64,10 +64,10 @@ described-done n text zero w = rw zero (ap (λ (p : ℕ × List ℕ). (0, p .0, 
 list-ok : (label strict : Bool) (s : List ℕ) (n : ℕ) → Accepted label strict s n → listOk label strict s ≡ true
 list-ok label strict s n h = ok-counted label strict s n (accepts-exactly label strict s n .1 h) .0
 
-pub label-list-ok : (s : List ℕ) → labelNumber s ≡ 0 → (listOk true false (listOf s) ≡ true) × (length (listOf s) ≤ labelMax)
+pub label-list-ok : (s : List ℕ) → labelNumber s ≡ 0 → (listOk true labelStrict (listOf s) ≡ true) × (length (listOf s) ≤ labelMax)
 label-list-ok s zero =
     let accepted = accepts-label s (countOf true (listOf s)) .0 answers in
-    (list-ok true false (listOf s) (countOf true (listOf s)) (accepted .list), omega (arith, accepted .short, length-drop 2 s))
+    (list-ok true labelStrict (listOf s) (countOf true (listOf s)) (accepted .list), omega (arith, accepted .short, length-drop 2 s))
   where
     answers : labelAnswer s ≡ (0, countOf true (listOf s) ∷ [])
     answers = rw zero
@@ -92,7 +92,7 @@ module _ (s : List ℕ) (n : ℕ) (number : labelNumber s ≡ n) where
     rest : list ≡ listOf s
     rest = is ∙ part-rest s 2
 
-    pub label-tested : (listOk true false list ≡ true) × (length list ≤ labelMax)
+    pub label-tested : (listOk true labelStrict list ≡ true) × (length list ≤ labelMax)
     label-tested = rw rest (label-list-ok s (number ∙ zero))
 
     pub label-done : {final : List ℕ} {e : ℕ} → Wrote 0 (listText true list) (replicate describedRoom 0) final e → labelDescribed s ≡ (n, e, final)

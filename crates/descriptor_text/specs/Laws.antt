@@ -5,7 +5,7 @@ use mathlib.Core.Bool.{Bool, true, false}
 use mathlib.Core.List.{List, [], _∷_}
 use Prim.Native.Nat.{ℕ, _+_, _-_, _*_, _≤_, _<_}
 use lib.Dec.{eqb}
-use lib.ListN.{length, drop}
+use lib.ListN.{length, drop, replicate}
 use Rattle.octets.specs.Bytes.{Bytes}
 use Rattle.octets.specs.Lent.{when, over}
 use Rattle.octets.specs.Tests.{partOf}
@@ -15,18 +15,19 @@ use Rattle.wording.specs.Hex.{hexRead}
 use Rattle.wording.specs.Lines.{newline}
 use Rattle.descriptors.specs.Descriptor.{descriptorHeadSize, isDescriptor}
 use Rattle.descriptors.specs.Tested.{countOf}
+use Rattle.keypage.specs.Laws.{HoldsReserved}
 use Rattle.descriptor_text.specs.Lines.{descriptorLine, listText}
 use Rattle.descriptor_text.specs.Described.{describedRoom, labelDescribed, pageDescribed}
 use Rattle.descriptor_text.specs.declared.Described.{Described}
 
--- a page's list of three descriptors, 00h of no bytes, the reserved 10h of one and C0h of three, and the text of it
+-- a label's list of three descriptors, 00h of no bytes, the reserved 10h of one and C0h of three, and the text of it
 abbrev pub threeDescriptors : List ℕ
 threeDescriptors =
     0x00 ∷ 0 ∷ 0 ∷ 0 ∷ 0x10 ∷ 0 ∷ 0 ∷ 1 ∷ 0xAB ∷ 0xC0 ∷ 0 ∷ 0 ∷ 3 ∷ 1 ∷ 2 ∷ 3 ∷ []
 
 abbrev pub ExampleText : Type 0
 ExampleText =
-    listText false threeDescriptors
+    listText true threeDescriptors
     ≡ ascii "descriptors 2\n00 0000 -\nC0 0003 010203\n"
 
 abbrev pub EmptyText : Type 0
@@ -50,6 +51,11 @@ pub record LineReadsBack (d room : List ℕ) : Type 0 where
 
 abbrev pub ReadsBack : Type 0
 ReadsBack = (d room : List ℕ) → isDescriptor d ≡ true → Bytes d → length d ≤ length room → LineReadsBack d room
+
+-- ---- a page with a reserved descriptor has no text: "a reserved type gives 2" (document 02, No. 7)
+
+abbrev pub ReservedDescribed : Type 0
+ReservedDescribed = (p : List ℕ) → HoldsReserved p → pageDescribed p ≡ (2, 0, replicate describedRoom 0)
 
 -- ---- a text by value has its room, and lies in it
 

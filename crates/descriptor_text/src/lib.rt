@@ -3,7 +3,8 @@
 mod line;
 mod stepping;
 
-use descriptors::cursor::begin;
+use descriptors::cursor::begin_as;
+use descriptors::label::LABEL_STRICT;
 use descriptors::label_check;
 use keypage::reading::LIST_STRICT;
 use keypage::reading::list_in;
@@ -20,10 +21,8 @@ ghost use Rattle.descriptors.specs.Labels.{labelMax};
 ghost use Rattle.descriptor_text.specs.Lines.{listText};
 ghost use Rattle.descriptor_text.specs.Described.{describedRoom, labelDescribed, pageDescribed};
 
-// The zero bytes of a label before its list, which is not read strictly.
+// The zero bytes of a label before its list.
 const ZERO_SIZE: usize = 2;
-
-const LABEL_STRICT: bool = false;
 
 // Room for the text of any list of 4,096 bytes.
 const ROOM: usize = 12288;
@@ -35,12 +34,12 @@ pub struct Described {
     pub bytes: [u8; ROOM],
 }
 
-// The text of a list that keeps to the layout.
+// The text of a list that is accepted.
 fn put_list(list: &[u8], label: bool, strict: bool, out: &mut [u8]) -> usize
     requires { ⌜ (listOk label strict (now list) ≡ true) × (length (now list) ≤ labelMax) × (describedRoom ≤ length (now out)) ⌝ }
     ensures { λ r. ⌜ Wrote 0 (listText label (now (list .entry))) (now (out .entry)) (now (out .exit)) r ⌝ }
 {
-    let begun = begin(list, label, strict);
+    let begun = begin_as(list, label, strict);
     let at = put_line(out, 0, b"descriptors", begun.count as u64);
     put_all(list, begun.place, begun.count, out, at)
 }
@@ -72,7 +71,7 @@ pub fn describe_label(label: &[u8]) -> Described
     }
 }
 
-// The text of a key page's list.
+// The text of a key page's list, which is stepped along as reading tests it.
 pub fn describe_page(page: &[u8]) -> Described
     ensures { λ r. ⌜ pageDescribed (now (page .entry)) ≡ (r .number, r .size, r .bytes) ⌝ }
 {

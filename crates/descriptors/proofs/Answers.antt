@@ -13,7 +13,7 @@ use Rattle.octets.specs.Tests.{every}
 use Rattle.descriptors.specs.Tested.{testedSays, listOk, listNumber, listAnswer, listCheck, countOf}
 use Rattle.descriptors.specs.Parse.{split}
 use Rattle.descriptors.specs.Steps.{splitStep, stepAnswer, cursorAtStart, begunOf, advanceOf, placesAfter, listStep}
-use Rattle.descriptors.specs.Labels.{labelMax, listOf, labelShape, labelOk, labelNumber, labelAnswer, labelCheck}
+use Rattle.descriptors.specs.Labels.{labelMax, listOf, labelShape, labelStrict, labelOk, labelNumber, labelAnswer, labelCheck}
 use Rattle.descriptors.specs.declared.cursor.Advance.{Advance}
 use Rattle.descriptors.specs.declared.list.Tested.{Tested}
 use Rattle.descriptors.specs.declared.list.Tested.the-variants.{Counted, Refused}
@@ -99,7 +99,7 @@ module _ (s : List ℕ) where
   unfolding labelOk
   label-shapeless e = rw e
 
-  pub label-list : every (labelShape s) ≡ true → labelOk s ≡ listOk true false (listOf s)
+  pub label-list : every (labelShape s) ≡ true → labelOk s ≡ listOk true labelStrict (listOf s)
   unfolding labelOk
   label-list e = rw e
 

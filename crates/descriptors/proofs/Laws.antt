@@ -17,7 +17,7 @@ use Rattle.descriptors.specs.Descriptor.{typeOf, isReserved, isRefused, 
 use Rattle.descriptors.specs.Parse.{Split, split, parse}
 use Rattle.descriptors.specs.Tested.{admits, risesFrom, splitTests, splitOk, listOk, unreserved, listAnswer}
 use Rattle.descriptors.specs.Steps.{firstShown, splitStep, stepAnswer, advanceOf}
-use Rattle.descriptors.specs.Labels.{labelMax, listOf, labelShape, labelOk, labelNumber, labelAnswer, present}
+use Rattle.descriptors.specs.Labels.{labelMax, listOf, labelShape, labelStrict, labelOk, labelNumber, labelAnswer, present}
 use Rattle.descriptors.specs.declared.cursor.Cursor.{Cursor}
 use Rattle.descriptors.specs.Laws.{ParsesExactly, SplitsWhole, Accepted, AcceptsExactly, ShowsInOrder, ThenNothing, RefusedStays, RefusedShowsNothing, AcceptedLabel, AcceptsLabel, LabelClaim}
 use Rattle.descriptors.specs.Laws.{ListTestsRise, LeftTestsRise, LabelTestsRise}
@@ -72,7 +72,7 @@ accepts-exactly label strict s n = (to, from)
 -- ---- steps
 
 -- at the start of an accepted list stand all its descriptors
-starts : (label strict : Bool) (s : List ℕ) (ds : List (List ℕ)) → listOk label strict s ≡ true → parse s ≡ some ds → Stands label strict s 0 ds
+pub starts : (label strict : Bool) (s : List ℕ) (ds : List (List ℕ)) → listOk label strict s ≡ true → parse s ≡ some ds → Stands label strict s 0 ds
 starts label strict s ds ok e =
     let (whole, joined) = parses-exactly s ds .0 e in
     let (parsed, rises, admitted) = ok-parts label strict s ok in
@@ -130,12 +130,12 @@ two-zeros (x ∷ y ∷ s) h z =
     cons-equal (eqb-true _ _ (and-left (eqb x 0) (eqb y 0 && true) z)) (cons-equal (eqb-true _ _ (and-left (eqb y 0) true (and-right (eqb x 0) (eqb y 0 && true) z))) refl)
 
 -- what number 0 says of a label's tests, and what gives it
-label-parts : (s : List ℕ) → labelNumber s ≡ 0 → (every (labelShape s) ≡ true) × (listOk true false (listOf s) ≡ true) × (length s ≤ labelMax)
+label-parts : (s : List ℕ) → labelNumber s ≡ 0 → (every (labelShape s) ≡ true) × (listOk true labelStrict (listOf s) ≡ true) × (length s ≤ labelMax)
 unfolding labelOk
 label-parts s e =
     let (ok, short) = none (labelOk s) (ltb labelMax (length s)) e in (
-      and-left (every (labelShape s)) (listOk true false (listOf s)) ok,
-      and-right (every (labelShape s)) (listOk true false (listOf s)) ok,
+      and-left (every (labelShape s)) (listOk true labelStrict (listOf s)) ok,
+      and-right (every (labelShape s)) (listOk true labelStrict (listOf s)) ok,
       ltb-false labelMax (length s) short,
     )
   where
@@ -160,7 +160,7 @@ accepts-label s n = (to, from)
         let (shape, ok, short) = label-parts s none in
         record {
           zeroes = two-zeros s (every-at (labelShape s) 0 shape) (every-at (labelShape s) 1 shape);
-          list = accepts-exactly true false (listOf s) n .0 (list-accepted true false (listOf s) n ok count);
+          list = accepts-exactly true labelStrict (listOf s) n .0 (list-accepted true labelStrict (listOf s) n ok count);
           has-00 = every-at (labelShape s) 2 shape;
           has-01 = every-at (labelShape s) 3 shape;
           has-03 = every-at (labelShape s) 4 shape;
@@ -170,7 +170,7 @@ accepts-label s n = (to, from)
 
     from : AcceptedLabel s n → labelAnswer s ≡ (0, n ∷ [])
     from h =
-        let (ok, count) = ok-counted true false (listOf s) n (accepts-exactly true false (listOf s) n .1 (h .list)) in
+        let (ok, count) = ok-counted true labelStrict (listOf s) n (accepts-exactly true labelStrict (listOf s) n .1 (h .list)) in
         label-accepted s n (label-list s (parts-label s n h) ∙ ok) (h .short) count
 
 pub label-claim : LabelClaim

@@ -1,7 +1,7 @@
 -- The laws of specs/ReaderLaws.antt: what is proved of the cursor, over the reader's own calls.
 -- Assumes nothing.
 use mathlib.Core.Path.{_≡_, refl, sym, ap, _∙_}
-use mathlib.Core.Bool.{Bool, true}
+use mathlib.Core.Bool.{Bool, true, false}
 use mathlib.Core.List.{List, []}
 use Prim.Native.Nat.{ℕ, zero, suc, _-_}
 use native.Mathlib.Omega.{arith}
@@ -14,7 +14,7 @@ use Rattle.descriptors.specs.Parse.{Split}
 use Rattle.descriptors.specs.Tested.{listOk, unreserved, countOf}
 use Rattle.descriptors.specs.Steps.{cursorAtStart, advanceOf, partShown, cursorAfter}
 use Rattle.descriptors.specs.Readers.{standing, openedOf, shownSays, shownOf, nextOf}
-use Rattle.descriptors.specs.ReaderLaws.{ReaderRun, ReaderCounts, ReaderShows, ReaderThenNothing, ReaderRefusedStays, ReaderOpenUnique, ReaderNextUnique, PartAtUnique}
+use Rattle.descriptors.specs.ReaderLaws.{ReaderRun, ReaderCounts, ReaderShows, ReaderThenNothing, ReaderStrictSame, ReaderRefusedStays, ReaderOpenUnique, ReaderNextUnique, PartAtUnique}
 use Rattle.descriptors.specs.declared.cursor.Cursor.{Cursor}
 use Rattle.descriptors.specs.declared.cursor.Advance.{Advance}
 use Rattle.descriptors.specs.declared.cursor.Begun.{Begun}
@@ -23,6 +23,7 @@ use Rattle.descriptors.specs.declared.reader.Opened.{Opened}
 use Rattle.descriptors.proofs.Split.{parse-split}
 use Rattle.descriptors.proofs.Answers.{number-ok, begun-counted}
 use Rattle.descriptors.proofs.Laws.{shows-in-order, then-nothing, refused-quiet, refused-stays}
+use Rattle.descriptors.proofs.StrictLaws.{strict-ok, strict-shows-same}
 
 -- a reader's answer, and the reader after it
 abbrev Next : Type 0
@@ -54,11 +55,16 @@ module _ (l : RefT (List ℕ)) (label strict : Bool) (run : ReaderRun l label st
   accepted : run .opened .number ≡ 0 → listOk label strict (now l) ≡ true
   accepted e = number-ok label strict (now l) (sym (ap (λ (o : Opened). o .number) (run .opens)) ∙ e)
 
+  -- an accepted list is opened with 0 and its count
+  opens-ok : listOk label strict (now l) ≡ true → run .opened ≡ record { number = 0; count = countOf label (now l); reader = on (cursorAtStart label strict) }
+  opens-ok ok =
+      run .opens
+      ∙ ap (λ (b : Begun). record { number = b .number; count = b .count; reader = on (b .place) }) (sym (begun-counted label strict (now l) (countOf label (now l)) ok refl))
+
   module _ (ds : List (List ℕ)) where
     pub reader-counts : ReaderCounts l label strict run ds
     reader-counts e p =
-        ap (λ (o : Opened). o .count) (run .opens)
-        ∙ ap (λ (b : Begun). b .count) (sym (begun-counted label strict (now l) (countOf label (now l)) (accepted e) refl))
+        ap (λ (o : Opened). o .count) (opens-ok (accepted e))
         ∙ ap (λ (q : Split). length (unreserved label (q .0))) (parse-split (now l) ds p)
 
     pub reader-shows : ReaderShows l label strict run ds
@@ -79,6 +85,19 @@ module _ (l : RefT (List ℕ)) (label strict : Bool) (run : ReaderRun l label st
       where
         nothing : (s : List ℕ) (at : ℕ) → partOf s at (at - at) ≡ []
         nothing s at = let none : at - at ≡ 0 = omega arith in ap (partOf s at) none
+
+pub reader-strict-same : ReaderStrictSame
+reader-strict-same l label new old e =
+    let ok = accepted l label true new e in
+    let opened = opens-ok l label false old (strict-ok label (now l) ok) in (
+      ap (λ (o : Opened). o .number) opened,
+      ap (λ (o : Opened). o .count) (opens-ok l label true new ok) ∙ sym (ap (λ (o : Opened). o .count) opened),
+      λ i. shown-at l label true new i ∙ same (strict-shows-same label (now l) i ok) ∙ sym (shown-at l label false old i),
+    )
+  where
+    same : {n m from to end last : ℕ} → (n ≡ m) × (from ≡ to) × (end ≡ last)
+        → _≡_ {A = ℕ × Placed} (n, partIn (placed l) from (end - from)) (m, partIn (placed l) to (last - to))
+    same (number, start, stop) = rw (number, start, stop)
 
 pub reader-refused-stays : ReaderRefusedStays
 reader-refused-stays d f = (refused-quiet (now (d .list)) (d .place) f, ap (standing (d .list)) (refused-stays (now (d .list)) (d .place) f))

@@ -42,7 +42,7 @@ module _ (label strict : Bool) (s : List ℕ) where
   stands-step at ds h = rw (le-ltb (length s) at (h .inside), h .left, split-flatten ds (h .whole))
 
   -- the first of them passed
-  stands-past : (at : ℕ) (d : List ℕ) (ds : List (List ℕ)) → Stands label strict s at (d ∷ ds) → Stands label strict s (at + length d) ds
+  pub stands-past : (at : ℕ) (d : List ℕ) (ds : List (List ℕ)) → Stands label strict s at (d ∷ ds) → Stands label strict s (at + length d) ds
   unfolding all flatten
   stands-past at d ds h =
       record {

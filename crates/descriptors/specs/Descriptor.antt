@@ -1,7 +1,7 @@
 -- One descriptor (document 01, "Descriptors and labels"): "Type; a zero byte; two-byte length; that many bytes." And which types are reserved.
 -- Assumes nothing.
 use Prim.Native.Nat.{ℕ, _+_}
-use mathlib.Core.Bool.{Bool, _&&_}
+use mathlib.Core.Bool.{Bool, true, _&&_}
 use mathlib.Core.List.{List, [], _∷_}
 use lib.ListN.{length, getD}
 use lib.Dec.{eqb, leb}
@@ -41,3 +41,7 @@ isReserved label t = every (leb (reservedFrom label) t ∷ leb t reservedTo ∷ 
 -- "opened strict, the reader gives 2 for one"
 abbrev pub isRefused : Bool → Bool → ℕ → Bool
 isRefused label strict t = strict && isReserved label t
+
+-- "A descriptor reader opened without a choice is now strict" (document 02, No. 7), of a page's list and of a label's alike
+abbrev pub strictByDefault : Bool
+strictByDefault = true

@@ -42,9 +42,13 @@ labelShape s =
     ∷ holds 0x04 (listOf s)
     ∷ []
 
--- its list is tested as a label's, and not strictly
+-- "the label reader asks for the old one, since managers in the field put reserved types into labels" (document 02, No. 7)
+abbrev pub labelStrict : Bool
+labelStrict = false
+
+-- its list is tested as a label's
 unfoldable pub labelOk : List ℕ → Bool
-labelOk s = every (labelShape s) && listOk true false (listOf s)
+labelOk s = every (labelShape s) && listOk true labelStrict (listOf s)
 
 abbrev pub labelTests : List ℕ → Tests
 labelTests s = (2, not (labelOk s)) ∷ (4, ltb labelMax (length s)) ∷ []

@@ -14,7 +14,7 @@ use Rattle.descriptors.specs.Descriptor.{typeOf, isReserved, isDescripto
 use Rattle.descriptors.specs.Parse.{split, parse}
 use Rattle.descriptors.specs.Tested.{admits, listOk, unreserved, listTests, testedSays, listAnswer, listCheck}
 use Rattle.descriptors.specs.Steps.{leftTests, stepSays, stepAnswer, cursorAtStart, begunOf, advanceOf, partShown, cursorAfter, listStep}
-use Rattle.descriptors.specs.Labels.{labelMax, listOf, holds, labelTests, labelSays, labelAnswer, labelCheck}
+use Rattle.descriptors.specs.Labels.{labelMax, listOf, holds, labelStrict, labelTests, labelSays, labelAnswer, labelCheck}
 use Rattle.descriptors.specs.declared.cursor.Cursor.{Cursor}
 
 -- ---- the parse
@@ -79,7 +79,7 @@ RefusedStays = (s : List ℕ) (c : Cursor) → (advanceOf s c .number ≡ 0 → 
 
 pub record AcceptedLabel (s : List ℕ) (n : ℕ) : Type 0 where
   pub zeroes : take 2 s ≡ 0 ∷ 0 ∷ []
-  pub list : Accepted true false (listOf s) n
+  pub list : Accepted true labelStrict (listOf s) n
   pub has-00 : holds 0x00 (listOf s) ≡ true
   pub has-01 : holds 0x01 (listOf s) ≡ true
   pub has-03 : holds 0x03 (listOf s) ≡ true

@@ -5,4 +5,5 @@ pub mod Steps
 pub mod Labels
 pub mod Readers
 pub mod Laws
+pub mod StrictLaws
 pub mod ReaderLaws

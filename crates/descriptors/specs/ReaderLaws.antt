@@ -1,7 +1,7 @@
 -- What the reader's own calls promise, as statements; proofs/ReaderLaws.antt proves each.
 -- Assumes nothing.
 use mathlib.Core.Path.{_≡_}
-use mathlib.Core.Bool.{Bool}
+use mathlib.Core.Bool.{Bool, true, false}
 use mathlib.Core.List.{List, []}
 use mathlib.Core.Option.{some}
 use Prim.Native.Nat.{ℕ, suc, _-_, _≤_, _<_}
@@ -43,6 +43,12 @@ module _ (l : RefT (List ℕ)) (label strict : Bool) (run : ReaderRun l label st
   ReaderThenNothing =
       (i : ℕ) → run .opened .number ≡ 0 → parse (now l) ≡ some ds → length (unreserved label ds) ≤ i
       → (run .shown i .number ≡ 0) × (now (run .shown i .part) ≡ []) × (run .held (suc i) ≡ run .held i)
+
+-- one list opened strict, and opened the old way: where the first gives 0 so does the second, both count the same, and each step shows the same part
+abbrev pub ReaderStrictSame : Type 0
+ReaderStrictSame =
+    (l : RefT (List ℕ)) (label : Bool) (new : ReaderRun l label true) (old : ReaderRun l label false) → new .opened .number ≡ 0
+    → (old .opened .number ≡ 0) × (new .opened .count ≡ old .opened .count) × ((i : ℕ) → shownSays (new .shown i) ≡ shownSays (old .shown i))
 
 -- a step that is refused shows nothing and does not move
 abbrev pub ReaderRefusedStays : Type 0

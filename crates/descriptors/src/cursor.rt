@@ -1,14 +1,16 @@
 // The cursor: a place in a list, and what the opening chose. A step from it answers by an enum; opening and stepping answer by a struct.
 use crate::descriptor::reserved;
 use crate::descriptor::size_at;
+use crate::list::STRICT_BY_DEFAULT;
 use crate::list::Tested;
-use crate::list::check_list;
+use crate::list::check_list_as;
 use octets::big_endian::read8;
 use octets::strings::part_in;
 ghost use mathlib.Core.Path.{_≡_};
 ghost use mathlib.Core.List.{[], _∷_};
 ghost use Prim.Native.Nat.{_-_};
 ghost use Rattle.octets.specs.Places.{placed, partIn};
+ghost use Rattle.descriptors.specs.Descriptor.{strictByDefault};
 ghost use Rattle.descriptors.specs.Steps.{stepSays, stepAnswer, begunOf, advancedBy, advanceOf};
 
 pub struct Cursor {
@@ -68,7 +70,7 @@ pub fn step_at(list: &[u8], label: bool, strict: bool, place: usize) -> Step
 }
 
 // Opens a list: page or label, strict or not.
-pub fn begin(list: &[u8], label: bool, strict: bool) -> Begun
+pub fn begin_as(list: &[u8], label: bool, strict: bool) -> Begun
     ensures { λ r. ⌜ r ≡ begunOf (now (list .entry)) label strict ⌝ }
 {
     let place = Cursor {
@@ -76,7 +78,7 @@ pub fn begin(list: &[u8], label: bool, strict: bool) -> Begun
         label,
         strict,
     };
-    match check_list(list, label, strict) {
+    match check_list_as(list, label, strict) {
         Tested::Counted(n) => Begun {
             number: 0,
             count: n,
@@ -88,6 +90,13 @@ pub fn begin(list: &[u8], label: bool, strict: bool) -> Begun
             place,
         },
     }
+}
+
+// The same without a choice.
+pub fn begin(list: &[u8], label: bool) -> Begun
+    ensures { λ r. ⌜ r ≡ begunOf (now (list .entry)) label strictByDefault ⌝ }
+{
+    begin_as(list, label, STRICT_BY_DEFAULT)
 }
 
 // A step that shows the descriptor between two places, and moves past it.

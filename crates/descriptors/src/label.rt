@@ -2,7 +2,7 @@
 use crate::descriptor::rest;
 use crate::descriptor::size_at;
 use crate::list::Tested;
-use crate::list::check_list;
+use crate::list::check_list_as;
 use octets::big_endian::read8;
 use octets::strings::all_zero;
 use octets::strings::part;
@@ -14,6 +14,9 @@ const LABEL_MAX: usize = 4096;
 
 // The zero bytes before the list.
 const ZERO_SIZE: usize = 2;
+
+// Whether a label's list is opened strict: it is not, since managers in the field put reserved types into labels (document 02, No. 7).
+pub const LABEL_STRICT: bool = false;
 
 // What testing a label finds: the number of its descriptors that are not reserved; Broken, which is number 2; or Long, which is number 4.
 pub enum Label {
@@ -60,7 +63,7 @@ pub fn check_label(label: &[u8]) -> Label
     if !shaped(label) {
         return Label::Broken;
     }
-    let Tested::Counted(n) = check_list(rest(label, ZERO_SIZE), true, false) else {
+    let Tested::Counted(n) = check_list_as(rest(label, ZERO_SIZE), true, LABEL_STRICT) else {
         return Label::Broken;
     };
     if label.len() > LABEL_MAX {

@@ -11,22 +11,31 @@ use cursor::Cursor;
 use cursor::advance_at;
 use label::Label;
 use label::check_label;
+use list::STRICT_BY_DEFAULT;
 use list::Tested;
-use list::check_list;
+use list::check_list_as;
 ghost use mathlib.Core.Path.{_≡_};
+ghost use Rattle.descriptors.specs.Descriptor.{strictByDefault};
 ghost use Rattle.descriptors.specs.Tested.{listCheck};
 ghost use Rattle.descriptors.specs.Steps.{listStep};
 ghost use Rattle.descriptors.specs.Labels.{labelCheck};
 
 // Stores the count of a list's unreserved descriptors, and answers 0; or changes nothing, and answers 2.
-pub fn list_check(list: &[u8], label: bool, strict: bool, count: &mut u64) -> u8
+pub fn list_check_as(list: &[u8], label: bool, strict: bool, count: &mut u64) -> u8
     ensures { λ n. ⌜ listCheck label strict (now (list .entry)) (now (count .entry)) ≡ (n, now (count .exit)) ⌝ }
 {
-    let Tested::Counted(n) = check_list(list, label, strict) else {
+    let Tested::Counted(n) = check_list_as(list, label, strict) else {
         return 2;
     };
     *count = n as u64;
     0
+}
+
+// The same without a choice.
+pub fn list_check(list: &[u8], label: bool, count: &mut u64) -> u8
+    ensures { λ n. ⌜ listCheck label strictByDefault (now (list .entry)) (now (count .entry)) ≡ (n, now (count .exit)) ⌝ }
+{
+    list_check_as(list, label, STRICT_BY_DEFAULT, count)
 }
 
 // Stores where the next descriptor begins and ends, both the place itself where none is left, and answers 0; or changes nothing, and answers 2.

@@ -7,8 +7,11 @@ ghost use mathlib.Core.Bool.{_&&_, not};
 ghost use Prim.Native.Nat.{_≤_};
 ghost use lib.Dec.{leb};
 ghost use Rattle.octets.specs.Lent.{when};
-ghost use Rattle.descriptors.specs.Descriptor.{isReserved, isRefused};
+ghost use Rattle.descriptors.specs.Descriptor.{isReserved, isRefused, strictByDefault};
 ghost use Rattle.descriptors.specs.Tested.{testedSays, listAnswer};
+
+// A list opened without a choice is opened strict: document 02, No. 7.
+pub const STRICT_BY_DEFAULT: bool = true;
 
 // What testing a list finds: the number of its descriptors that are not reserved; or Refused, which is number 2.
 pub enum Tested {
@@ -33,8 +36,8 @@ fn counted(label: bool, kind: usize) -> usize
     1
 }
 
-// Tests a whole list.
-pub fn check_list(list: &[u8], label: bool, strict: bool) -> Tested
+// Tests a whole list: page or label, strict or not.
+pub fn check_list_as(list: &[u8], label: bool, strict: bool) -> Tested
     ensures { λ r. ⌜ testedSays r ≡ listAnswer label strict (now (list .entry)) ⌝ }
 {
     let mut at = 0;
@@ -54,4 +57,11 @@ pub fn check_list(list: &[u8], label: bool, strict: bool) -> Tested
         at += n;
     }
     Tested::Counted(count)
+}
+
+// The same without a choice.
+pub fn check_list(list: &[u8], label: bool) -> Tested
+    ensures { λ r. ⌜ testedSays r ≡ listAnswer label strictByDefault (now (list .entry)) ⌝ }
+{
+    check_list_as(list, label, STRICT_BY_DEFAULT)
 }

@@ -1,9 +1,11 @@
 // The reader: the caller's list, and a place in it. Its functions are thin; the cursor's do the work.
 use crate::cursor::Cursor;
 use crate::cursor::advance_at;
-use crate::cursor::begin;
+use crate::cursor::begin_as;
 use crate::cursor::part_at;
+use crate::list::STRICT_BY_DEFAULT;
 ghost use mathlib.Core.Path.{_≡_};
+ghost use Rattle.descriptors.specs.Descriptor.{strictByDefault};
 ghost use Rattle.descriptors.specs.Readers.{openedOf, shownSays, nextOf};
 
 pub struct Reader<'a> {
@@ -25,10 +27,10 @@ pub struct Shown<'a> {
 }
 
 // Opens a list: page or label, strict or not.
-pub fn open<'a>(list: &'a [u8], label: bool, strict: bool) -> Opened<'a>
+pub fn open_as<'a>(list: &'a [u8], label: bool, strict: bool) -> Opened<'a>
     ensures { λ r. ⌜ r ≡ openedOf (list .entry) label strict ⌝ }
 {
-    let b = begin(list, label, strict);
+    let b = begin_as(list, label, strict);
     Opened {
         number: b.number,
         count: b.count,
@@ -37,6 +39,13 @@ pub fn open<'a>(list: &'a [u8], label: bool, strict: bool) -> Opened<'a>
             place: b.place,
         },
     }
+}
+
+// The same without a choice.
+pub fn open<'a>(list: &'a [u8], label: bool) -> Opened<'a>
+    ensures { λ r. ⌜ r ≡ openedOf (list .entry) label strictByDefault ⌝ }
+{
+    open_as(list, label, STRICT_BY_DEFAULT)
 }
 
 // A step where the caller holds the reader: the place moves, and the descriptor is shown.

@@ -8,7 +8,7 @@ use mathlib.Core.Option.{Option, some, none}
 use Prim.Native.Nat.{ℕ, _+_, _≤_}
 use lib.ListN.{length}
 use Rattle.octets.specs.Bytes.{Bytes}
-use Rattle.octets.specs.Lent.{over}
+use Rattle.octets.specs.Lent.{when, over}
 use Rattle.octets.specs.Lowest.{rises}
 use Rattle.octets.specs.Unique.{Unique}
 use Rattle.octets.specs.Tests.{zeros, partOf}
@@ -18,7 +18,9 @@ use Rattle.keytable.specs.Table.{tableOk, dataRow}
 use Rattle.keytable.specs.Laws.{RowMore}
 use Rattle.keywrap.specs.Calls.{wrappedSize}
 use Rattle.keywrap.specs.Laws.{WrapsTo}
+use Rattle.descriptors.specs.Parse.{split}
 use Rattle.descriptors.specs.Laws.{Accepted}
+use Rattle.descriptors.specs.StrictLaws.{HasReserved}
 use Rattle.keypage.specs.Page.{pageCode, pageMax, keyPartAt, scopeIn, reservedIn, encryptionIn, decryptionIn, algorithmIn, formatIn, keyLength, keyPart, listIn, pageStrict, fieldsOf}
 use Rattle.keypage.specs.KeyPart.{plainFormat, referenceFormat, wrappedFormat, referenceMin, kekType, identifierSize, wrappedOf, identifierAt}
 use Rattle.keypage.specs.Read.{pageReadTests, pageReadNumber, pageReadAnswer}
@@ -55,6 +57,21 @@ pub record Readable (p : List ℕ) : Type 0 where
 
 abbrev pub ReadsExactly : Type 0
 ReadsExactly = (p fields after : List ℕ) → (pageReadAnswer p fields ≡ (0, after)) ↔ (Readable p × (after ≡ fieldsOf p))
+
+-- ---- a page with a reserved descriptor is refused (document 02, No. 7): "a reserved type gives 2", whatever else is wrong with the page
+
+abbrev pub HoldsReserved : List ℕ → Type 0
+HoldsReserved p = HasReserved false (split (listIn p) .0)
+
+abbrev pub ReservedReadsTwo : Type 0
+ReservedReadsTwo = (p fields : List ℕ) → HoldsReserved p → pageReadAnswer p fields ≡ (2, fields)
+
+-- a load's number, by whether its table is accepted
+abbrev pub reservedNumber : Bool → ℕ
+reservedNumber ok = when ok 2 1
+
+abbrev pub ReservedLoadsTwo : Type 0
+ReservedLoadsTwo = (t p out fields : List ℕ) → HoldsReserved p → loadAnswer t p out fields ≡ ((reservedNumber (tableOk t), out), fields)
 
 -- ---- loading, for an accepted table, a page that reading accepts, and room
 

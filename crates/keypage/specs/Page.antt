@@ -7,6 +7,7 @@ use lib.ListN.{length, getD, drop}
 use lib.Dec.{eqb, leb}
 use Rattle.octets.specs.BigEndian.{numberAt}
 use Rattle.octets.specs.Tests.{every, zeros, partOf}
+use Rattle.descriptors.specs.Descriptor.{strictByDefault}
 use Rattle.descriptors.specs.Tested.{listOk, countOf}
 
 abbrev pub pageCode : ℕ
@@ -72,13 +73,14 @@ keyPart p = partOf p keyPartAt (keyLength p)
 abbrev pub listIn : List ℕ → List ℕ
 listIn p = drop (keyPartAt + keyLength p) p
 
--- the list is tested as a page's (not as a label's), and not strictly; and the count of its unreserved descriptors
+-- the list is tested as a page's (not as a label's); "Page loading and the page lister take the new default" (document 02, No. 7)
 abbrev pub pageStrict : Bool
-pageStrict = false
+pageStrict = strictByDefault
 
 abbrev pub pageListOk : List ℕ → Bool
 pageListOk list = listOk false pageStrict list
 
+-- "it is the number of unreserved descriptors in the list"
 abbrev pub pageListCount : List ℕ → ℕ
 pageListCount list = countOf false list
 

@@ -45,11 +45,11 @@ ghost use Rattle.keypage.specs.Read.{pageReadNumber, pageReadAnswer};
 // The fields that reading and loading store, in the order of the C interface.
 pub const FIELD_COUNT: usize = 14;
 
-// Whether a page's list keeps to the layout, and how many of its descriptors are not reserved.
+// Whether a page's list is accepted, and how many of its descriptors are not reserved.
 fn list_ok(list: &[u8]) -> bool
     ensures { λ r. ⌜ r ≡ pageListOk (now (list .entry)) ⌝ }
 {
-    let Tested::Counted(_) = descriptors::list::check_list(list, false, PAGE_STRICT) else {
+    let Tested::Counted(_) = descriptors::list::check_list_as(list, false, PAGE_STRICT) else {
         return false;
     };
     true
@@ -58,7 +58,7 @@ fn list_ok(list: &[u8]) -> bool
 fn list_count(list: &[u8]) -> usize
     ensures { λ r. ⌜ r ≡ when (pageListOk (now (list .entry))) (pageListCount (now (list .entry))) 0 ⌝ }
 {
-    let Tested::Counted(n) = descriptors::list::check_list(list, false, PAGE_STRICT) else {
+    let Tested::Counted(n) = descriptors::list::check_list_as(list, false, PAGE_STRICT) else {
         return 0;
     };
     n
@@ -77,7 +77,7 @@ pub fn list_in(p: &[u8]) -> &[u8]
     part(p, KEY_AT + read16(p, KEY_LENGTH_AT), p.len())
 }
 
-// Whether the list is stepped along strictly: as it is tested.
+// Whether the list is stepped along strict: as it is tested.
 pub const LIST_STRICT: bool = PAGE_STRICT;
 
 // Whether the page's own bytes keep to the layout.
@@ -127,7 +127,7 @@ pub fn check(p: &[u8]) -> u8
     0
 }
 
-// The fields of a page whose list keeps to the layout.
+// The fields of a page whose list is accepted.
 pub(crate) fn fields_of(p: &[u8]) -> [u64; FIELD_COUNT]
     requires { ⌜ pageListOk (listIn (now p)) ≡ true ⌝ }
     ensures { λ r. ⌜ r ≡ fieldsOf (now (p .entry)) ⌝ }

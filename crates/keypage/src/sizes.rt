@@ -1,4 +1,6 @@
 // The numbers of document 01's key pages that have a name. The page: where its words and bytes stand, and what they may hold.
+use descriptors::list::STRICT_BY_DEFAULT;
+
 pub(crate) const CODE_AT: usize = 0;
 
 pub(crate) const PAGE_CODE: usize = 0x0010;
@@ -38,8 +40,8 @@ pub(crate) const KEY_AT: usize = 20;
 
 pub(crate) const PAGE_MAX: usize = 4096;
 
-// Whether a page's list is tested strictly.
-pub(crate) const PAGE_STRICT: bool = false;
+// Whether a page's list is opened strict: it takes the default (document 02, No. 7).
+pub(crate) const PAGE_STRICT: bool = STRICT_BY_DEFAULT;
 
 // The bits of a byte: it is divided to begin at a bit, and the rest by 2, 4 or 16 is as many bits from there.
 pub(crate) const FROM_BIT_1: usize = 2;

@@ -2,11 +2,12 @@
 -- Assumes nothing.
 use mathlib.Core.Path.{_≡_}
 use mathlib.Core.List.{List, [], _∷_, _++_}
-use Prim.Native.Nat.{ℕ, _<_}
+use Prim.Native.Nat.{ℕ, _≤_, _<_}
 use lib.ListN.{length, replicate}
 use Rattle.octets.specs.Unique.{UniqueBy}
 use Rattle.wording.specs.Ascii.{ascii}
 use Rattle.keypage.specs.Page.{pageMax}
+use Rattle.keypage.specs.Laws.{HoldsReserved}
 use Rattle.page_text.specs.Listing.{listing, listingMax, listingAnswer}
 use Rattle.page_text.specs.declared.Text.{Text}
 
@@ -18,6 +19,10 @@ LongRefused = (p : List ℕ) → pageMax < length p → listing p ≡ ascii "ref
 abbrev pub EmptyRefused : Type 0
 EmptyRefused = listing [] ≡ ascii "refused 2\n"
 
+-- "Page loading and the page lister take the new default" (document 02, No. 7)
+abbrev pub ReservedListed : Type 0
+ReservedListed = (p : List ℕ) → length p ≤ pageMax → HoldsReserved p → listing p ≡ ascii "refused 2\n"
+
 -- "This 66-byte page: `00 10 00 3E 40 00 02 02 02 04`, eight zeros, `00 2E 00 02 00 02 4B 31`, forty zeros"
 abbrev pub examplePage : List ℕ
 examplePage =
@@ -27,6 +32,17 @@ examplePage =
 abbrev pub ExampleListed : Type 0
 ExampleListed =
     listing examplePage ≡ ascii "scope 2\nlock 0\nencrypt 2\ndecrypt 2\nalgorithm 2\nformat 4\nkey length 46\ndescriptors 0\n"
+
+-- that page with one empty descriptor after its KEY part: "A key manager wrote type 30h for 03h" (document 02, No. 7)
+abbrev pub pageWith : ℕ → List ℕ
+pageWith type =
+    0x00 ∷ 0x10 ∷ 0x00 ∷ 0x42 ∷ 0x40 ∷ 0x00 ∷ 0x02 ∷ 0x02 ∷ 0x02 ∷ 0x04 ∷ replicate 8 0
+    ++ 0x00 ∷ 0x2E ∷ 0x00 ∷ 0x02 ∷ 0x00 ∷ 0x02 ∷ 0x4B ∷ 0x31 ∷ replicate 40 0 ++ type ∷ 0x00 ∷ 0x00 ∷ 0x00 ∷ []
+
+abbrev pub WrongTypeListed : Type 0
+WrongTypeListed =
+    (listing (pageWith 0x03) ≡ ascii "scope 2\nlock 0\nencrypt 2\ndecrypt 2\nalgorithm 2\nformat 4\nkey length 46\ndescriptors 1\n")
+    × (listing (pageWith 0x30) ≡ ascii "refused 2\n")
 
 -- a text by value always has room for 256 bytes
 abbrev pub TextRoom : Type 0

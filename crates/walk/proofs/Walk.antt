@@ -37,7 +37,7 @@ pub use prog.Wp.{Heap}
 pub use ghost.Atoms.{sem}
 pub use contract.Lifetimes.{Lfts}
 pub use types.Kit.{‵, _⊛_, _$_, _∵_, !, qed, by, move, keep, drop, use1, split, fjoin}
-pub use types.Run.{of-opd, lit}
+pub use types.Run.{of-opd, lit, true-lit}
 pub use types.Part.{agg}
 pub use denote.Laws.{Is}
 pub use denote.Builtin.{u8, u32, u64, usize, bool}

@@ -1,5 +1,5 @@
 /*
- * What the writers of lines on lists and labels share: descriptors, lists of them, and the three calls as lines. Nothing
+ * What the writers of lines on lists and labels share: descriptors, lists of them, and the four calls as lines. Nothing
  * is freed: these programs are short.
  */
 #ifndef DESCRIPTORS_H
@@ -37,14 +37,25 @@ static inline struct bytes list_of(const unsigned char *types, size_t count, siz
     return list;
 }
 
-/* Some rising types, each below 05h and each other with a chance of so many in 256; contents of fewer than 16 bytes. */
-static inline struct bytes any_list(unsigned low, unsigned high)
+/* Some rising types, each before `end` and each from `from` on with a chance of so many in 256; contents of fewer than 16 bytes. */
+static inline struct bytes rising(unsigned end, unsigned low, unsigned from, unsigned high)
 {
     struct bytes list = nothing;
     for (unsigned type = 0; type < 256; type++)
-        if (byte() < (type < 5 ? low : high))
+        if (byte() < (type < end ? low : type >= from ? high : 0))
             list = joined(list, descriptor(type, likely(byte() % 16)));
     return list;
+}
+
+/* Of all types, and of those alone that are not reserved on a page. */
+static inline struct bytes any_list(unsigned low, unsigned high)
+{
+    return rising(0x05, low, 0x05, high);
+}
+
+static inline struct bytes any_page_list(unsigned low, unsigned high)
+{
+    return rising(0x04, low, 0xc0, high);
 }
 
 /* The types that a label needs. */
@@ -63,12 +74,14 @@ static inline struct bytes label_as_long(size_t len, unsigned type)
     return joined(label, descriptor(type, some(len - label.len - 4)));
 }
 
-/* For a page and for a label, strict and not. */
+/* For a page and for a label: without a choice, and told, strict and not. */
 static inline void list_checks(const char *about, struct bytes list)
 {
-    for (unsigned how = 0; how < 4; how++) {
-        unsigned long long flags[] = { how & 1, how >> 1 };
-        write_numbered(about, "list_check", list, flags, 2);
+    for (unsigned label = 0; label < 2; label++) {
+        unsigned long long old[] = { label, 0 }, strict[] = { label, 1 };
+        write_numbered(about, "list_check", list, old, 1);
+        write_numbered(about, "list_check_as", list, old, 2);
+        write_numbered(about, "list_check_as", list, strict, 2);
     }
 }
 

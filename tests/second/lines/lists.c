@@ -1,7 +1,7 @@
 /*
- * Lines of calls on descriptor lists: every type; each rule broken once; reserved types at both ends of their range;
- * steps from every place and from places past the end; lengths whose sums of 16 bits come round; lists of any
- * descriptors, whole and damaged. Inputs come from a seed, which is printed.
+ * Lines of calls on descriptor lists, opened without a choice and with each: every type; each rule broken once; reserved
+ * types at both ends of their range; steps from every place and from places past the end; lengths whose sums of 16 bits
+ * come round; lists of any descriptors, whole and damaged. Inputs come from a seed, which is printed.
  */
 #include "descriptors.h"
 
@@ -35,12 +35,14 @@ static void flags(void)
 {
     static const unsigned long long values[] = { 0, 1, 2, 127, 128, 254, 255 };
     for (size_t i = 0; i < COUNT(values); i++)
-        for (size_t j = 0; j < COUNT(values); j++)
-            for (unsigned type = 3; type <= 5; type++) {
+        for (unsigned type = 3; type <= 5; type++) {
+            write_numbered("flags", "list_check", descriptor(type, nothing), &values[i], 1);
+            for (size_t j = 0; j < COUNT(values); j++) {
                 unsigned long long numbers[] = { values[i], values[j], 0 };
-                write_numbered("flags", "list_check", descriptor(type, nothing), numbers, 2);
+                write_numbered("flags", "list_check_as", descriptor(type, nothing), numbers, 2);
                 write_numbered("flags", "list_step", descriptor(type, nothing), numbers, 3);
             }
+        }
 }
 
 /* A list, and where its descriptors begin. */
@@ -143,9 +145,10 @@ static void lengths(void)
         sixteen[i] = (unsigned char)(0xc0 + i);
     struct bytes widest = joined(list_of(sixteen, 16, 65535), descriptor(0xff, nothing));
     unsigned long long numbers[] = { 0, 1, 16 * 65539 };
-    write_numbered("widest", "list_check", widest, numbers, 2);
+    write_numbered("widest", "list_check", widest, numbers, 1);
+    write_numbered("widest", "list_check_as", widest, numbers, 2);
     write_numbered("widest", "list_step", widest, numbers, 3);
-    write_numbered("widest", "list_check", cut(widest, widest.len - 5), numbers, 2);
+    write_numbered("widest", "list_check", cut(widest, widest.len - 5), numbers, 1);
 }
 
 /* Every byte changed by one, by its top bit and to something else, and stepped at; every length; one byte more. */

@@ -38,7 +38,8 @@ static inline void any_list_check(void)
 {
     struct bytes list = any_descriptors();
     unsigned long long numbers[] = { any_flag(), any_flag() };
-    write_numbered(MADE, "list_check", one_in(3) ? bad_list(list) : list, numbers, 2);
+    int told = one_in(2);
+    write_numbered(MADE, told ? "list_check_as" : "list_check", one_in(3) ? bad_list(list) : list, numbers, told ? 2 : 1);
 }
 
 /* From where a descriptor begins, from the end, from any place, or from one past the end, also by its high bits alone. */

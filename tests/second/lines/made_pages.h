@@ -17,18 +17,28 @@ static inline struct bytes bad_part(unsigned format, struct bytes key)
     return with(key, 2, 2, key.len - 3 + below(one_in(2) ? 1 : 2000));
 }
 
+/* A page with a reserved descriptor or two, often 30h for 03h or at an end of the range. */
+static inline struct bytes page_with_reserved(struct bytes page)
+{
+    static const unsigned types[] = { 0x04, 0x05, 0x30, 0x30, 0xbe, 0xbf };
+    unsigned type = one_in(2) ? ONE_OF(types) : 0x04 + (unsigned)below(0xbc);
+    page = page_with(page, type, likely(below(16)));
+    return type < 0xbf && one_in(4) ? page_with(page, type + 1, nothing) : page;
+}
+
 /* A page that does not keep the layout, whatever its KEY part: its head, its lengths or its list; or any damage. */
 static inline struct bytes bad_page(struct bytes page)
 {
     static const int lengths[] = { 2, 18 };
     int at = ONE_OF(lengths);
-    switch (below(7)) {
+    switch (below(10)) {
     case 0: return damaged(page);
     case 1: return changed(page, below(2), 1u << below(8));
     case 2: return changed(page, 4, 2u << below(4));
     case 3: return changed(page, 10 + below(8), 1u << below(8));
     case 4: return with(page, (size_t)at, 2, get(page.at + at, 2) + (one_in(2) ? 1 : UINT64_MAX));
     case 5: return fitted(sized(page, page.len + 1 + below(3)));
+    case 6: case 7: case 8: return page_with_reserved(page);
     }
     return fitted(cut(page, 4 + below(page.len - 4)));
 }
@@ -91,7 +101,7 @@ static inline struct loading any_loading(unsigned flaws)
     else if (one_in(50) && key.len < 1000)
         l.page = page_as_long(index, format, key, PAGE_MAX - below(2));
     else
-        l.page = page_of(index, format, key, any_list(100, one_in(2) ? 0 : (unsigned)below(8)));
+        l.page = page_of(index, format, key, any_page_list(100, one_in(2) ? 0 : (unsigned)below(8)));
     if (HAS(flaws, 3))
         l.page = page_not_permitted(l.page);
     if (HAS(flaws, 2) && !in_part)

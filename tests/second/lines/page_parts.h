@@ -99,8 +99,19 @@ static inline struct bytes key_of(unsigned index, unsigned format)
 
 static inline struct bytes list_with(unsigned descriptors)
 {
-    static const unsigned char types[] = { 0x01, 0x04, 0xc0 };
+    static const unsigned char types[] = { 0x01, 0x03, 0xc0 };
     return list_of(types, descriptors, descriptors);
+}
+
+/* The page with one descriptor more in its list, where types rise. */
+static inline struct bytes page_with(struct bytes page, unsigned type, struct bytes contents)
+{
+    size_t at = PAGE_HEAD + get(page.at + 18, 2);
+    struct bytes rest;
+    while (at < page.len && page.at[at] < type)
+        at += DESCRIPTOR_HEAD + get(page.at + at + 2, 2);
+    rest.at = page.at + at, rest.len = page.len - at;
+    return fitted(joined(cut(page, at), joined(descriptor(type, contents), rest)));
 }
 
 /* A page as long as that, by its last descriptor. */

@@ -1,8 +1,8 @@
 /*
- * Lines of calls on key pages: document 01's page; pages of every format with 0 to 3 descriptors; every byte changed,
- * every length; KEY parts at their boundaries; keys wrapped by other methods; names that begin alike; rooms; broken
- * tables; lengths about the maximum and about PAGE LENGTH's; every choice of flaws at once; any pages, whole and
- * damaged. Inputs come from a seed, which is printed.
+ * Lines of calls on key pages: document 01's page; pages of every format with 0 to 3 descriptors; descriptors of every
+ * type; every byte changed, every length; KEY parts at their boundaries; keys wrapped by other methods; names that begin
+ * alike; rooms; broken tables; lengths about the maximum and about PAGE LENGTH's; every choice of flaws at once; any
+ * pages, whole and damaged. Inputs come from a seed, which is printed.
  */
 #include "page_parts.h"
 
@@ -33,6 +33,15 @@ static void whole(void)
                     loads("room", holders, page, outs[i]);
                 loads("no-row", table_of(NULL, 0), page, 32);
             }
+}
+
+/* A descriptor of every type, alone and among others. */
+static void types(void)
+{
+    for (unsigned format = 0; format < 3; format++)
+        for (unsigned type = 0; type < 256; type++)
+            for (unsigned descriptors = 0; descriptors <= 3; descriptors++)
+                both("type", page_with(good(1 + type % 2, formats[format], descriptors), type, some(type % 3)));
 }
 
 /* Every value of the bytes before the KEY part; the rest changed by one and by the top bit; every length. */
@@ -218,7 +227,7 @@ static void tables(void)
         for (unsigned format = 0; format < 3; format++) {
             struct bytes page = good(2, formats[format], format);
             struct bytes pages[] = { page, nothing, changed(page, 0, 1), with(page, 8, 1, 0), with(page, 9, 1, 2),
-                cut(page, 19), changed(page, page.len - 1, 1) };
+                cut(page, 19), changed(page, page.len - 1, 1), page_with(page, 0x30, some(1)) };
             for (size_t i = 0; i < COUNT(pages); i++)
                 loads("broken-table", broken[t], pages[i], 32);
             loads("broken-table", broken[t], page, 0);
@@ -249,6 +258,7 @@ static void limits(void)
             reads("long-2", changed(page, page.len - 1 - page.len / 2, 1));
             reads("long-2", changed(page, 4, 2));
             reads("long-2", fitted(cut(page, page.len - 1)));
+            both("long-2", page_with(page, 0x30, nothing));
             reads("long-3", with(page, 9, 1, 5));
             reads("long-3", with(page, 6, 1, 3));
             loads("long-2", holders, changed(page, 10, 1), 32);
@@ -281,34 +291,39 @@ static struct bytes without(const struct row *r, unsigned way)
     return way == 0 ? table_of(&renamed, 1) : way == 3 ? table_of(others, 2) : table_of(&others[way - 1], 1);
 }
 
-/* A page and a load with the flaw of each number in a set, in one of four ways: the lowest is to be given. */
+/*
+ * A page and a load with the flaw of each number in a set, in one of five ways, of which the last has a reserved
+ * descriptor for 2: the lowest is to be given.
+ */
 static void flawed(unsigned format, unsigned set, unsigned way)
 {
-    static const size_t rooms[] = { 31, 0, 16, 30 }, wraps[] = { 39, 24, 0, 32 };
+    static const size_t rooms[] = { 31, 0, 16, 30, 31 }, wraps[] = { 39, 24, 0, 32, 41 };
     int has[10], long_name;
     struct row row = format == REFERENCE ? named[2] : keks[1];
     struct bytes wrapped = wrapped_by(&row), name = row.name, key, list, page, table;
     for (unsigned number = 1; number < 10; number++)
         has[number] = set >> number & 1;
     if (has[9])
-        wrapped = changed(wrapped, 13 * way, 1u << way);
+        wrapped = changed(wrapped, 9 * way, 1u << way);
     if (has[8])
-        wrapped = cut(wrapped, wraps[way]);
+        wrapped = cut(joined(wrapped, some(1)), wraps[way]);
     if (has[7])
         row.use = 1;
-    table = has[6] ? without(&row, way) : table_of(&row, 1);
-    long_name = has[4] && way % 2 && format != PLAIN_KEY;
+    table = has[6] ? without(&row, way % 4) : table_of(&row, 1);
+    long_name = has[4] && way != 0 && way != 2 && format != PLAIN_KEY;
     if (long_name)
         name = joined(name, some(33 - name.len));
     key = format == PLAIN_KEY ? some(32) : format == REFERENCE ? name : wrapped_part(has[3] && way == 3 ? 3 : 1, name, wrapped);
     if (has[2] && way == 0)
         key = format == WRAPPED_KEY ? with(key, 2, 2, 0) : cut(key, format == REFERENCE ? 8 : 31);
-    list = has[4] && !long_name ? descriptor(0xc0, some(4096)) : list_with(way);
+    list = has[4] && !long_name ? descriptor(0xc0, some(4096)) : list_with(way % 4);
     page = page_of(2, format, key, list);
-    if (has[2] && way != 0)
+    if (has[2] && way == 4)
+        page = page_with(page, 0x30, some(1));
+    else if (has[2] && way != 0)
         page = way == 1 ? changed(page, 3, 1) : way == 2 ? changed(page, 4, 16) : fitted(joined(page, some(2)));
     if (has[3] && (way != 3 || format != WRAPPED_KEY))
-        page = way == 0 ? with(page, 4, 1, 0x60) : with(page, 5 + way, 1, 4);
+        page = way % 4 == 0 ? with(page, 4, 1, 0x60) : with(page, 5 + way, 1, 4);
     if (has[1])
         table = changed(table, 10 + way, 1);
     reads("flaws", page);
@@ -319,19 +334,20 @@ static void flawed(unsigned format, unsigned set, unsigned way)
 static void flaws(void)
 {
     static const unsigned highest[] = { 5, 7, 9 };
-    for (unsigned way = 0; way < 4; way++)
+    for (unsigned way = 0; way < 5; way++)
         for (unsigned format = 0; format < 3; format++)
             for (unsigned set = 0; set < 2u << highest[format]; set += 2)
                 if (formats[format] == REFERENCE || !(set >> 7 & 1))
                     flawed(formats[format], set, way);
 }
 
-/* Any pages, whole and with a change or two; and bytes that are a page only by chance. */
+/* Any pages, some with reserved descriptors, whole and with a change or two; and bytes that are a page only by chance. */
 static void any(void)
 {
     for (unsigned i = 0; i < 2000; i++) {
         unsigned index = 1 + byte() % 2, format = formats[byte() % 3];
-        struct bytes page = page_of(index, format, key_of(index, format), any_list(100, i % 8));
+        struct bytes list = i % 16 < 4 ? any_list(50, i % 4) : any_page_list(100, i % 8);
+        struct bytes page = page_of(index, format, key_of(index, format), list);
         for (unsigned flaw = i % 4; flaw > 1; flaw--)
             page = changed(page, (byte() % 2 ? byte() : byte() % 26) % page.len, 1u << byte() % 8);
         both("any", i % 8 == 5 ? fitted(cut(page, 4 + byte() % (page.len - 4))) : page);
@@ -347,6 +363,7 @@ int main(int argc, char **argv)
     begin_pages(argc, argv);
     printed();
     whole();
+    types();
     for (unsigned format = 0; format < 3; format++)
         every_byte(good(1 + format % 2, formats[format], format + 1));
     lengths();

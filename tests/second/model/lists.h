@@ -1,4 +1,4 @@
-/* Descriptor lists and labels, read anew from document 01, "Descriptors and labels". */
+/* Descriptor lists and labels, read anew from document 01, "Descriptors and labels", and document 02, No. 7. */
 #ifndef LISTS_H
 #define LISTS_H
 
@@ -22,7 +22,8 @@ static inline uint64_t descriptor_end(struct bytes list, uint64_t at)
     return whole <= left ? at + whole : 0;
 }
 
-static inline int list_check(struct bytes list, int label, int strict, unsigned long long *count)
+/* A list opened as the caller says. */
+static inline int list_check_as(struct bytes list, int label, int strict, unsigned long long *count)
 {
     int last = -1;
     unsigned long long shown = 0;
@@ -36,6 +37,12 @@ static inline int list_check(struct bytes list, int label, int strict, unsigned 
     }
     *count = shown;
     return 0;
+}
+
+/* A list opened without a choice: a reserved type is 2, on a page and on a label. */
+static inline int list_check(struct bytes list, int label, unsigned long long *count)
+{
+    return list_check_as(list, label, 1, count);
 }
 
 /* What is shown is a descriptor's start and end; the place twice where none is left. */
@@ -65,6 +72,7 @@ static inline int present(struct bytes list, unsigned type)
     return 0;
 }
 
+/* Labels in the field have reserved types: their list is opened the old way. */
 static inline int label_check(struct bytes label, unsigned long long *count)
 {
     struct bytes list;
@@ -72,7 +80,7 @@ static inline int label_check(struct bytes label, unsigned long long *count)
     if (label.len < 2 || get(label.at, 2) != 0)
         return 2;
     list.at = label.at + 2, list.len = label.len - 2;
-    if (list_check(list, 1, 0, &shown) != 0)
+    if (list_check_as(list, 1, 0, &shown) != 0)
         return 2;
     if (!present(list, 0x00) || !present(list, 0x01) || !present(list, 0x03) || !present(list, 0x04))
         return 2;

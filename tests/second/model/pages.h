@@ -1,6 +1,6 @@
 /*
- * Key pages, read anew from document 01, "Key page" and "Numbers given back", and document 02, No. 2. Every length is
- * taken in 64 bits.
+ * Key pages, read anew from document 01, "Key page" and "Numbers given back", and document 02, No. 2 and No. 7. Every
+ * length is taken in 64 bits.
  */
 #ifndef PAGES_H
 #define PAGES_H
@@ -52,6 +52,7 @@ static inline int key_fits(unsigned format, struct bytes key)
     return 1;
 }
 
+/* The list is opened without a choice: a reserved type breaks the layout as any other flaw of the list does. */
 static inline int page_fits(struct bytes page, unsigned long long *count)
 {
     struct bytes key, list;
@@ -63,7 +64,7 @@ static inline int page_fits(struct bytes page, unsigned long long *count)
     if (PAGE_HEAD + key.len > page.len)
         return 0;
     list.at = key.at + key.len, list.len = page.len - PAGE_HEAD - key.len;
-    return list_check(list, 0, 0, count) == 0 && key_fits(page.at[9], key);
+    return list_check(list, 0, count) == 0 && key_fits(page.at[9], key);
 }
 
 /* The fields, the format and the KEK type of a page that keeps its layout. */

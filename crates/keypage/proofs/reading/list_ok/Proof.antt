@@ -11,12 +11,12 @@ use Rattle.keypage.proofs.reading.list_ok.Tie as tie
 returns : tie.Need-returns
 returns c =
     let at-test = c .before .before in
-    sym (refused-tells false pageStrict (at-test .before .before .args .list .now) _ (at-test .check-list .ensures) (c .enum-told2 .given .1))
+    sym (refused-tells false pageStrict (at-test .before .before .args .list .now) (at-test .check-list-as .result) (at-test .check-list-as .ensures) (c .enum-told2 .given .1))
 
 returns-2 : tie.Need-returns-2
 returns-2 c =
     let at-test = c .before .before in
-    sym (counted-tells false pageStrict (at-test .before .before .args .list .now) _ (at-test .check-list .ensures) _ (c .enum-told .given .1) .0)
+    sym (counted-tells false pageStrict (at-test .before .before .args .list .now) (at-test .check-list-as .result) (at-test .check-list-as .ensures) _ (c .enum-told .given .1) .0)
 
 pub list-ok-spec : {M : Type 1} → statement M
 list-ok-spec = tie.close (tie.spec (λ c κs. search needs) (λ c. search needs) (λ c. search needs) returns returns-2)

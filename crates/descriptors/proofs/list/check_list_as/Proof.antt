@@ -1,4 +1,4 @@
--- `descriptors::list::check_list` meets its contract: what is left at `at` decides, and what it counts is added to the count so far.
+-- `descriptors::list::check_list_as` meets its contract: what is left at `at` decides, and what it counts is added to the count so far.
 -- Assumes nothing.
 use mathlib.Core.Path.{_≡_, refl, sym, ap, _∙_}
 use mathlib.Core.List.{List}
@@ -14,8 +14,8 @@ use Rattle.descriptors.specs.Tested.{splitOk, listOk, unreserved, countO
 use Rattle.descriptors.proofs.Split.{size-in}
 use Rattle.descriptors.proofs.Turns.{test-turn, test-refused, count-turn, test-stop, test-end, count-end}
 use Rattle.descriptors.proofs.Answers.{list-refused, list-accepted}
-use Rattle.descriptors.proofs.list.check_list.Statement.{statement}
-use Rattle.descriptors.proofs.list.check_list.Tie as tie
+use Rattle.descriptors.proofs.list.check_list_as.Statement.{statement}
+use Rattle.descriptors.proofs.list.check_list_as.Tie as tie
 
 abbrev Inv-loop : tie.InvT-loop
 Inv-loop list label strict at₀ least₀ count₀ at least count =
@@ -90,8 +90,8 @@ returns-3 c =
     (list-accepted _ _ _ _ (sym (l .loop .inv .2) ∙ test-end _ _ (c .loop-test .left) _ _ _)
     (sym (add-zero (l .loop .count)) ∙ ap (λ (m : ℕ). l .loop .count + m) (sym (count-end _ _ (c .loop-test .left) _)) ∙ l .loop .inv .3))
 
-pub check-list-spec : {M : Type 1} → statement M
-check-list-spec =
+pub check-list-as-spec : {M : Type 1} → statement M
+check-list-as-spec =
     tie.close
     (tie.spec
     Inv-loop

@@ -1,0 +1,55 @@
+-- What opening strict promises beside the old way (document 02, No. 7), as statements; proofs/StrictLaws.antt proves each.
+-- Assumes nothing.
+use mathlib.Core.Path.{_≡_}
+use mathlib.Core.Logic.{_↔_}
+use mathlib.Core.Bool.{Bool, true, false}
+use mathlib.Core.List.{List, [], _∷_}
+use mathlib.Core.Option.{some}
+use Prim.Native.Nat.{ℕ, _<_}
+use lib.ListN.{length, getD}
+use Rattle.octets.specs.Tests.{all}
+use Rattle.descriptors.specs.Descriptor.{typeOf, isReserved, strictByDefault}
+use Rattle.descriptors.specs.Parse.{split, parse}
+use Rattle.descriptors.specs.Tested.{admits, listOk, unreserved, listAnswer}
+use Rattle.descriptors.specs.Steps.{cursorAtStart, advanceOf, cursorAfter}
+use Rattle.descriptors.specs.Labels.{labelStrict}
+use Rattle.descriptors.specs.declared.cursor.Advance.{Advance}
+
+-- whether descriptor number i has a reserved type; that none has one, and that one has
+abbrev pub reservedAt : Bool → List (List ℕ) → ℕ → Bool
+reservedAt label ds i = isReserved label (typeOf (getD ds i []))
+
+abbrev pub NoneReserved : Bool → List (List ℕ) → Type 0
+NoneReserved label ds = (i : ℕ) → i < length ds → reservedAt label ds i ≡ false
+
+pub record HasReserved (label : Bool) (ds : List (List ℕ)) : Type 0 where
+  pub place : ℕ
+  pub within : place < length ds
+  pub reserved : reservedAt label ds place ≡ true
+
+-- strict, 0 and a count are given exactly where the old way gives them and no type is reserved
+abbrev pub StrictExactly : Type 0
+StrictExactly =
+    (label : Bool) (s : List ℕ) (n : ℕ)
+    → (listAnswer label true s ≡ (0, n ∷ [])) ↔ ((listAnswer label false s ≡ (0, n ∷ [])) × NoneReserved label (split s .0))
+
+-- and then each step from the start shows the same as the old way's
+abbrev pub ShowSame : Advance → Advance → Type 0
+ShowSame a b = (a .number ≡ b .number) × (a .from ≡ b .from) × (a .end ≡ b .end)
+
+abbrev pub StrictShowsSame : Type 0
+StrictShowsSame =
+    (label : Bool) (s : List ℕ) (i : ℕ) → listOk label true s ≡ true
+    → ShowSame (advanceOf s (cursorAfter i s (cursorAtStart label true))) (advanceOf s (cursorAfter i s (cursorAtStart label false)))
+
+-- no descriptor is left out of the count, or of what is shown
+abbrev pub StrictLeavesNone : Type 0
+StrictLeavesNone = (label : Bool) (s : List ℕ) (ds : List (List ℕ)) → listOk label true s ≡ true → parse s ≡ some ds → unreserved label ds ≡ ds
+
+-- "a reserved type gives 2": of any list, one among the whole descriptors that it begins with is enough
+abbrev pub ReservedRefused : Type 0
+ReservedRefused = (label : Bool) (s : List ℕ) → HasReserved label (split s .0) → listAnswer label strictByDefault s ≡ (2, [])
+
+-- no type is refused on a label
+abbrev pub LabelAdmits : Type 0
+LabelAdmits = (ds : List (List ℕ)) → all (admits true labelStrict) ds ≡ true
