@@ -45,12 +45,12 @@ splits-whole s = (split-joined s, split-whole s, split-left s)
 
 module _ (label strict : Bool) (s : List ℕ) where
   -- what an accepted list's tests say of its descriptors
-  ok-parts : listOk label strict s ≡ true → (parse s ≡ some (split s .0)) × (risesFrom 0 (split s .0) ≡ true) × (all (admits label strict) (split s .0) ≡ true)
+  pub ok-parts : listOk label strict s ≡ true → (parse s ≡ some (split s .0)) × (risesFrom 0 (split s .0) ≡ true) × (all (admits label strict) (split s .0) ≡ true)
   unfolding splitOk
   ok-parts e =
       let tests = splitTests label strict 0 (split s) in (rw (every-at tests 0 e), every-at tests 1 e, every-at tests 2 e)
 
-  parts-ok : (ds : List (List ℕ)) → parse s ≡ some ds → risesFrom 0 ds ≡ true → all (admits label strict) ds ≡ true → listOk label strict s ≡ true
+  pub parts-ok : (ds : List (List ℕ)) → parse s ≡ some ds → risesFrom 0 ds ≡ true → all (admits label strict) ds ≡ true → listOk label strict s ≡ true
   unfolding splitOk
   parts-ok ds p r a = rw (parse-split s ds p, r, a)
 

@@ -14,7 +14,7 @@ use Rattle.descriptors.specs.Parse.{Split}
 use Rattle.descriptors.specs.Tested.{listOk, unreserved, countOf}
 use Rattle.descriptors.specs.Steps.{cursorAtStart, advanceOf, partShown, cursorAfter}
 use Rattle.descriptors.specs.Readers.{standing, openedOf, shownSays, shownOf, nextOf}
-use Rattle.descriptors.specs.ReaderLaws.{ReaderRun, ReaderCounts, ReaderShows, ReaderThenNothing, ReaderStrictSame, ReaderRefusedStays, ReaderOpenUnique, ReaderNextUnique, PartAtUnique}
+use Rattle.descriptors.specs.ReaderLaws.{ReaderRun, ReaderCounts, ReaderShows, ReaderThenNothing, ReaderStrictExactly, ReaderStrictSame, ReaderRefusedStays, ReaderOpenUnique, ReaderNextUnique, PartAtUnique}
 use Rattle.descriptors.specs.declared.cursor.Cursor.{Cursor}
 use Rattle.descriptors.specs.declared.cursor.Advance.{Advance}
 use Rattle.descriptors.specs.declared.cursor.Begun.{Begun}
@@ -23,7 +23,7 @@ use Rattle.descriptors.specs.declared.reader.Opened.{Opened}
 use Rattle.descriptors.proofs.Split.{parse-split}
 use Rattle.descriptors.proofs.Answers.{number-ok, begun-counted}
 use Rattle.descriptors.proofs.Laws.{shows-in-order, then-nothing, refused-quiet, refused-stays}
-use Rattle.descriptors.proofs.StrictLaws.{strict-ok, strict-shows-same}
+use Rattle.descriptors.proofs.StrictLaws.{strict-lax, strict-free, lax-strict, strict-shows-same}
 
 -- a reader's answer, and the reader after it
 abbrev Next : Type 0
@@ -86,18 +86,24 @@ module _ (l : RefT (List ℕ)) (label strict : Bool) (run : ReaderRun l label st
         nothing : (s : List ℕ) (at : ℕ) → partOf s at (at - at) ≡ []
         nothing s at = let none : at - at ≡ 0 = omega arith in ap (partOf s at) none
 
-pub reader-strict-same : ReaderStrictSame
-reader-strict-same l label new old e =
-    let ok = accepted l label true new e in
-    let opened = opens-ok l label false old (strict-ok label (now l) ok) in (
-      ap (λ (o : Opened). o .number) opened,
-      ap (λ (o : Opened). o .count) (opens-ok l label true new ok) ∙ sym (ap (λ (o : Opened). o .count) opened),
-      λ i. shown-at l label true new i ∙ same (strict-shows-same label (now l) i ok) ∙ sym (shown-at l label false old i),
-    )
-  where
-    same : {n m from to end last : ℕ} → (n ≡ m) × (from ≡ to) × (end ≡ last)
-        → _≡_ {A = ℕ × Placed} (n, partIn (placed l) from (end - from)) (m, partIn (placed l) to (last - to))
-    same (number, start, stop) = rw (number, start, stop)
+module _ (l : RefT (List ℕ)) (label : Bool) (strictly : ReaderRun l label true) (old-way : ReaderRun l label false) where
+  pub reader-strict-exactly : ReaderStrictExactly l label strictly old-way
+  reader-strict-exactly = (
+    λ e.
+        let ok = accepted l label true strictly e in
+        (ap (λ (o : Opened). o .number) (opens-ok l label false old-way (strict-lax label (now l) ok)), strict-free label (now l) ok),
+    λ h. ap (λ (o : Opened). o .number) (opens-ok l label true strictly (lax-strict label (now l) (accepted l label false old-way (h .0)) (h .1))),
+  )
+
+  pub reader-strict-same : ReaderStrictSame l label strictly old-way
+  reader-strict-same e =
+      let ok = accepted l label true strictly e in (
+        ap (λ (o : Opened). o .count) (opens-ok l label true strictly ok) ∙ sym (ap (λ (o : Opened). o .count) (opens-ok l label false old-way (strict-lax label (now l) ok))),
+        λ i.
+            shown-at l label true strictly i
+            ∙ ap (λ (a : ℕ × ℕ × ℕ). (a .0, partIn (placed l) (a .1) (a .2 - a .1))) (strict-shows-same label (now l) i ok)
+            ∙ sym (shown-at l label false old-way i),
+      )
 
 pub reader-refused-stays : ReaderRefusedStays
 reader-refused-stays d f = (refused-quiet (now (d .list)) (d .place) f, ap (standing (d .list)) (refused-stays (now (d .list)) (d .place) f))

@@ -37,7 +37,7 @@ record Shows (label strict : Bool) (s : List ℕ) (at : ℕ) (d : List ℕ) (us 
 
 module _ (label strict : Bool) (s : List ℕ) where
   -- a step by the descriptors from the place on
-  stands-step : (at : ℕ) (ds : List (List ℕ)) → Stands label strict s at ds → stepAnswer label strict s at ≡ firstShown label strict at ds []
+  pub stands-step : (at : ℕ) (ds : List (List ℕ)) → Stands label strict s at ds → stepAnswer label strict s at ≡ firstShown label strict at ds []
   unfolding splitStep
   stands-step at ds h = rw (le-ltb (length s) at (h .inside), h .left, split-flatten ds (h .whole))
 

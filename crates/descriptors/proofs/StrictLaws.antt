@@ -3,24 +3,22 @@
 use mathlib.Core.Path.{_≡_, refl, sym, ap, _∙_, subst}
 use mathlib.Core.Bool.{Bool, true, false, and-false, false≢true}
 use mathlib.Core.List.{List, [], _∷_}
-use mathlib.Core.Option.{some}
 use Prim.Native.Nat.{ℕ, zero, suc, _+_}
 use native.Mathlib.Omega.{arith}
-use borrow.Author.Tests.{le-ltb, not-true}
+use borrow.Author.Tests.{not-true}
 use lib.ListN.{length, getD}
 use Rattle.octets.specs.Tests.{all}
 use Rattle.octets.proofs.Tests.{all-at, and-left}
 use Rattle.descriptors.specs.Descriptor.{typeOf, isReserved, strictByDefault}
-use Rattle.descriptors.specs.Parse.{Split, split, parse}
-use Rattle.descriptors.specs.Tested.{admits, listOk, unreserved, listAnswer, countOf}
-use Rattle.descriptors.specs.Steps.{firstShown, splitStep, stepAnswer, advanceOf, cursorAfter}
-use Rattle.descriptors.specs.StrictLaws.{reservedAt, NoneReserved, HasReserved, StrictExactly, ShowSame, StrictShowsSame, StrictLeavesNone, ReservedRefused, LabelAdmits}
-use Rattle.descriptors.specs.Laws.{Accepted}
+use Rattle.descriptors.specs.Parse.{Split, split}
+use Rattle.descriptors.specs.Tested.{admits, listOk, unreserved, listAnswer}
+use Rattle.descriptors.specs.Steps.{firstShown, stepAnswer}
+use Rattle.descriptors.specs.StrictLaws.{reservedAt, NoneReserved, HasReserved, stepFrom, StrictExactly, StrictShowsSame, StrictLeavesNone, ReservedRefused, LabelAdmits}
 use Rattle.descriptors.specs.declared.cursor.Cursor.{Cursor}
-use Rattle.descriptors.proofs.Split.{parse-split, split-flatten}
-use Rattle.descriptors.proofs.Steps.{Stands, stands-past}
+use Rattle.descriptors.proofs.Split.{parse-split}
+use Rattle.descriptors.proofs.Steps.{Stands, stands-step, stands-past}
 use Rattle.descriptors.proofs.Answers.{list-refused, list-accepted, ok-counted}
-use Rattle.descriptors.proofs.Laws.{accepts-exactly, starts}
+use Rattle.descriptors.proofs.Laws.{ok-parts, parts-ok, starts}
 
 -- ---- which descriptors each way admits
 
@@ -44,41 +42,26 @@ none-strict label (d ∷ ds) none = rw (none 0 (omega arith)) (none-strict label
 
 -- ---- the test, and the count
 
--- the same descriptors, admitted by the other way
-other-way : (label strict other : Bool) (s : List ℕ) (n : ℕ) (h : Accepted label strict s n) → all (admits label other) (h .descriptors) ≡ true → Accepted label other s n
-other-way label strict other s n h admitted =
-    record { descriptors = h .descriptors; parsed = h .parsed; rise = h .rise; admitted = admitted; counted = h .counted }
+module _ (label : Bool) (s : List ℕ) where
+  -- what strict accepts the old way does, and it has no reserved type; and the other way round
+  pub strict-lax : listOk label true s ≡ true → listOk label false s ≡ true
+  strict-lax ok = let (parsed, rises, admitted) = ok-parts label true s ok in parts-ok label false s (split s .0) parsed rises (lax-admits label (split s .0))
+
+  pub strict-free : listOk label true s ≡ true → NoneReserved label (split s .0)
+  strict-free ok = strict-none label (split s .0) (ok-parts label true s ok .2)
+
+  pub lax-strict : listOk label false s ≡ true → NoneReserved label (split s .0) → listOk label true s ≡ true
+  lax-strict ok none =
+      let (parsed, rises, admitted) = ok-parts label false s ok in parts-ok label true s (split s .0) parsed rises (none-strict label (split s .0) none)
 
 pub strict-exactly : StrictExactly
 strict-exactly label s n = (to, from)
   where
-    cut : (ds : List (List ℕ)) → parse s ≡ some ds → split s .0 ≡ ds
-    cut ds e = ap (λ (p : Split). p .0) (parse-split s ds e)
-
     to : listAnswer label true s ≡ (0, n ∷ []) → (listAnswer label false s ≡ (0, n ∷ [])) × NoneReserved label (split s .0)
-    to e =
-        let h = accepts-exactly label true s n .0 e in
-        let ds = h .descriptors in (
-          accepts-exactly label false s n .1 (other-way label true false s n h (lax-admits label ds)),
-          subst (NoneReserved label) (sym (cut ds (h .parsed))) (strict-none label ds (h .admitted)),
-        )
+    to e = let (ok, count) = ok-counted label true s n e in (list-accepted label false s n (strict-lax label s ok) count, strict-free label s ok)
 
     from : (listAnswer label false s ≡ (0, n ∷ [])) × NoneReserved label (split s .0) → listAnswer label true s ≡ (0, n ∷ [])
-    from (e, none) =
-        let h = accepts-exactly label false s n .0 e in
-        let ds = h .descriptors in
-        accepts-exactly label true s n .1 (other-way label false true s n h (none-strict label ds (subst (NoneReserved label) (cut ds (h .parsed)) none)))
-
--- what strict accepts the old way does, and it has no reserved type
-module _ (label : Bool) (s : List ℕ) (ok : listOk label true s ≡ true) where
-  both : (listAnswer label false s ≡ (0, countOf label s ∷ [])) × NoneReserved label (split s .0)
-  both = strict-exactly label s (countOf label s) .0 (list-accepted label true s (countOf label s) ok refl)
-
-  pub strict-ok : listOk label false s ≡ true
-  strict-ok = ok-counted label false s (countOf label s) (both .0) .0
-
-  ok-none : NoneReserved label (split s .0)
-  ok-none = both .1
+    from (e, none) = let (ok, count) = ok-counted label false s n e in list-accepted label true s n (lax-strict label s ok none) count
 
 none-left : (label : Bool) (ds : List (List ℕ)) → NoneReserved label ds → unreserved label ds ≡ ds
 unfolding unreserved
@@ -87,13 +70,13 @@ none-left label (d ∷ ds) none = rw (none 0 (omega arith)) (ap (λ (us : List (
 
 pub strict-leaves-none : StrictLeavesNone
 strict-leaves-none label s ds ok e =
-    none-left label ds (subst (NoneReserved label) (ap (λ (p : Split). p .0) (parse-split s ds e)) (ok-none label s ok))
+    none-left label ds (subst (λ (p : Split). NoneReserved label (p .0)) (parse-split s ds e) (strict-free label s ok))
 
 pub reserved-not-ok : (label : Bool) (s : List ℕ) → HasReserved label (split s .0) → listOk label strictByDefault s ≡ false
 reserved-not-ok label s h = refused (listOk label strictByDefault s) refl
   where
     refused : (ok : Bool) → listOk label strictByDefault s ≡ ok → ok ≡ false
-    refused true e = absurd (false≢true (sym (ok-none label s e (h .place) (h .within)) ∙ h .reserved))
+    refused true e = absurd (false≢true (sym (strict-free label s e (h .place) (h .within)) ∙ h .reserved))
     refused false e = refl
 
 pub reserved-refused : ReservedRefused
@@ -101,48 +84,43 @@ reserved-refused label s h = list-refused label strictByDefault s (reserved-not-
 
 -- ---- steps
 
-module _ (label : Bool) (s : List ℕ) where
-  abbrev cursor : Bool → ℕ → Cursor
-  cursor strict at = record { at = at; label = label; strict = strict }
+-- descriptors that strict admits stand there the old way too
+stands-other : (label strict : Bool) (s : List ℕ) (at : ℕ) (ds : List (List ℕ)) → Stands label true s at ds → Stands label strict s at ds
+stands-other label true s at ds h = h
+stands-other label false s at ds h = record { inside = h .inside; left = h .left; whole = h .whole; admitted = lax-admits label ds }
 
-  -- where strict admits the descriptors from the place on, a step shows the first of them, strict or not
+module _ (label : Bool) (s : List ℕ) where
+  -- what a step answers where these descriptors stand from the place on and none is reserved, and what step number i from there gives
   abbrev firstOf : ℕ → List (List ℕ) → ℕ × List ℕ
   firstOf at [] = (0, [])
   firstOf at (d ∷ ds) = (0, at ∷ (at + length d) ∷ [])
 
-  shows-first : (strict : Bool) (at : ℕ) (ds : List (List ℕ)) → Stands label true s at ds → stepAnswer label strict s at ≡ firstOf at ds
-  unfolding splitStep firstShown all
-  shows-first strict at [] h = rw (le-ltb (length s) at (h .inside), h .left, split-flatten [] (h .whole))
-  shows-first strict at (d ∷ ds) h =
-      let free = not-true (isReserved label (typeOf d)) (and-left (admits label true d) (all (admits label true) ds) (h .admitted)) in
-      rw (le-ltb (length s) at (h .inside), h .left, split-flatten (d ∷ ds) (h .whole), free, and-false strict)
+  abbrev stepOn : ℕ → ℕ → List (List ℕ) → ℕ × ℕ × ℕ
+  stepOn zero at ds = (firstOf at ds .0, getD (firstOf at ds .1) 0 at, getD (firstOf at ds .1) 1 at)
+  stepOn (suc i) at [] = stepOn i at []
+  stepOn (suc i) at (d ∷ ds) = stepOn i (at + length d) ds
 
-  abbrev Same : Cursor → Cursor → Type 0
-  Same c e = ShowSame (advanceOf s c) (advanceOf s e)
+  module _ (strict : Bool) where
+    abbrev cursor : ℕ → Cursor
+    cursor at = record { at = at; label = label; strict = strict }
 
-  same-steps : (i at : ℕ) (ds : List (List ℕ)) → Stands label true s at ds → Same (cursorAfter i s (cursor true at)) (cursorAfter i s (cursor false at))
-  same-steps zero at ds h =
-      let e = shows-first true at ds h ∙ sym (shows-first false at ds h) in
-      (ap (λ (a : ℕ × List ℕ). a .0) e, ap (λ (a : ℕ × List ℕ). getD (a .1) 0 at) e, ap (λ (a : ℕ × List ℕ). getD (a .1) 1 at) e)
-  same-steps (suc i) at ds h = later ds h (same-steps i)
-    where
-      moved : (strict : Bool) (ds : List (List ℕ)) → Stands label true s at ds → advanceOf s (cursor strict at) .next ≡ cursor strict (getD (firstOf at ds .1) 1 at)
-      moved strict ds h = ap (λ (a : ℕ × List ℕ). cursor strict (getD (a .1) 1 at)) (shows-first strict at ds h)
+    shows-first : (at : ℕ) (ds : List (List ℕ)) → Stands label true s at ds → stepAnswer label strict s at ≡ firstOf at ds
+    unfolding firstShown all
+    shows-first at [] h = stands-step label strict s at [] (stands-other label strict s at [] h)
+    shows-first at (d ∷ ds) h =
+        let free = not-true (isReserved label (typeOf d)) (and-left (admits label true d) (all (admits label true) ds) (h .admitted)) in
+        stands-step label strict s at (d ∷ ds) (stands-other label strict s at (d ∷ ds) h) ∙ rw (free, and-false strict)
 
-      at-next : (ds : List (List ℕ)) → Stands label true s at ds
-          → (let next = getD (firstOf at ds .1) 1 at in Same (cursorAfter i s (cursor true next)) (cursorAfter i s (cursor false next)))
-          → Same (cursorAfter (suc i) s (cursor true at)) (cursorAfter (suc i) s (cursor false at))
-      at-next ds h same =
-          subst (λ (c : Cursor). Same (cursorAfter i s c) (cursorAfter (suc i) s (cursor false at))) (sym (moved true ds h))
-          (subst (λ (c : Cursor). Same (cursorAfter i s (cursor true (getD (firstOf at ds .1) 1 at))) (cursorAfter i s c)) (sym (moved false ds h)) same)
+    -- a step from the place, and the steps from where it leads
+    then-from : (i at : ℕ) (ds : List (List ℕ)) → Stands label true s at ds → stepFrom (cursor at) s (suc i) ≡ stepFrom (cursor (getD (firstOf at ds .1) 1 at)) s i
+    then-from i at ds h = ap (λ (a : ℕ × List ℕ). stepFrom (cursor (getD (a .1) 1 at)) s i) (shows-first at ds h)
 
-      later : (ds : List (List ℕ)) → Stands label true s at ds
-          → ((end : ℕ) (rest : List (List ℕ)) → Stands label true s end rest → Same (cursorAfter i s (cursor true end)) (cursorAfter i s (cursor false end)))
-          → Same (cursorAfter (suc i) s (cursor true at)) (cursorAfter (suc i) s (cursor false at))
-      later [] h ih = at-next [] h (ih at [] h)
-      later (d ∷ ds) h ih = at-next (d ∷ ds) h (ih (at + length d) ds (stands-past label true s at d ds h))
+    steps-on : (i at : ℕ) (ds : List (List ℕ)) → Stands label true s at ds → stepFrom (cursor at) s i ≡ stepOn i at ds
+    steps-on zero at ds h = ap (λ (a : ℕ × List ℕ). (a .0, getD (a .1) 0 at, getD (a .1) 1 at)) (shows-first at ds h)
+    steps-on (suc i) at [] h = then-from i at [] h ∙ steps-on i at [] h
+    steps-on (suc i) at (d ∷ ds) h = then-from i at (d ∷ ds) h ∙ steps-on i (at + length d) ds (stands-past label true s at d ds h)
 
 pub strict-shows-same : StrictShowsSame
 strict-shows-same label s i ok =
-    let h = accepts-exactly label true s (countOf label s) .0 (list-accepted label true s (countOf label s) ok refl) in
-    same-steps label s i 0 (h .descriptors) (starts label true s (h .descriptors) ok (h .parsed))
+    let stands = starts label true s (split s .0) ok (ok-parts label true s ok .0) in
+    steps-on label s true i 0 (split s .0) stands ∙ sym (steps-on label s false i 0 (split s .0) stands)

@@ -1,6 +1,7 @@
 -- What the reader's own calls promise, as statements; proofs/ReaderLaws.antt proves each.
 -- Assumes nothing.
 use mathlib.Core.Path.{_≡_}
+use mathlib.Core.Logic.{_↔_}
 use mathlib.Core.Bool.{Bool, true, false}
 use mathlib.Core.List.{List, []}
 use mathlib.Core.Option.{some}
@@ -9,10 +10,11 @@ use lib.ListN.{length, getD}
 use denote.Ref.{RefT, now}
 use Rattle.octets.specs.Places.{Placed, placed, partIn}
 use Rattle.octets.specs.Unique.{Unique}
-use Rattle.descriptors.specs.Parse.{parse}
+use Rattle.descriptors.specs.Parse.{split, parse}
 use Rattle.descriptors.specs.Tested.{unreserved}
 use Rattle.descriptors.specs.Steps.{cursorAtStart, advanceOf, cursorAfter}
 use Rattle.descriptors.specs.Readers.{openedOf, shownSays, shownOf, nextOf}
+use Rattle.descriptors.specs.StrictLaws.{NoneReserved}
 use Rattle.descriptors.specs.declared.reader.Reader.{Reader}
 use Rattle.descriptors.specs.declared.reader.Opened.{Opened}
 use Rattle.descriptors.specs.declared.reader.Shown.{Shown}
@@ -44,11 +46,17 @@ module _ (l : RefT (List ℕ)) (label strict : Bool) (run : ReaderRun l label st
       (i : ℕ) → run .opened .number ≡ 0 → parse (now l) ≡ some ds → length (unreserved label ds) ≤ i
       → (run .shown i .number ≡ 0) × (now (run .shown i .part) ≡ []) × (run .held (suc i) ≡ run .held i)
 
--- one list opened strict, and opened the old way: where the first gives 0 so does the second, both count the same, and each step shows the same part
-abbrev pub ReaderStrictSame : Type 0
-ReaderStrictSame =
-    (l : RefT (List ℕ)) (label : Bool) (new : ReaderRun l label true) (old : ReaderRun l label false) → new .opened .number ≡ 0
-    → (old .opened .number ≡ 0) × (new .opened .count ≡ old .opened .count) × ((i : ℕ) → shownSays (new .shown i) ≡ shownSays (old .shown i))
+-- one list opened strict, and opened the old way
+module _ (l : RefT (List ℕ)) (label : Bool) (strictly : ReaderRun l label true) (old-way : ReaderRun l label false) where
+  -- the first gives 0 exactly when the second does and no type is reserved
+  abbrev pub ReaderStrictExactly : Type 0
+  ReaderStrictExactly = (strictly .opened .number ≡ 0) ↔ ((old-way .opened .number ≡ 0) × NoneReserved label (split (now l) .0))
+
+  -- and then both count the same, and each step shows the same part
+  abbrev pub ReaderStrictSame : Type 0
+  ReaderStrictSame =
+      strictly .opened .number ≡ 0
+      → (strictly .opened .count ≡ old-way .opened .count) × ((i : ℕ) → shownSays (strictly .shown i) ≡ shownSays (old-way .shown i))
 
 -- a step that is refused shows nothing and does not move
 abbrev pub ReaderRefusedStays : Type 0

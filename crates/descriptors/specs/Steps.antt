@@ -45,7 +45,7 @@ stepSays Broken = (2, [])
 
 -- ---- the cursor
 
--- "Opening says page or label, strict or not, and tests the whole list", or it is strict without a word (document 02, No. 7); that stays in the cursor
+-- "Opening says page or label, strict or not, and tests the whole list"; "opened without a choice" it is strict (document 02, No. 7). That stays in the cursor
 abbrev pub cursorAtStart : Bool → Bool → Cursor
 cursorAtStart label strict = record { at = 0; label = label; strict = strict }
 

@@ -13,7 +13,7 @@ use Rattle.descriptors.specs.Parse.{split, parse}
 use Rattle.descriptors.specs.Tested.{admits, listOk, unreserved, listAnswer}
 use Rattle.descriptors.specs.Steps.{cursorAtStart, advanceOf, cursorAfter}
 use Rattle.descriptors.specs.Labels.{labelStrict}
-use Rattle.descriptors.specs.declared.cursor.Advance.{Advance}
+use Rattle.descriptors.specs.declared.cursor.Cursor.{Cursor}
 
 -- whether descriptor number i has a reserved type; that none has one, and that one has
 abbrev pub reservedAt : Bool → List (List ℕ) → ℕ → Bool
@@ -33,14 +33,13 @@ StrictExactly =
     (label : Bool) (s : List ℕ) (n : ℕ)
     → (listAnswer label true s ≡ (0, n ∷ [])) ↔ ((listAnswer label false s ≡ (0, n ∷ [])) × NoneReserved label (split s .0))
 
--- and then each step from the start shows the same as the old way's
-abbrev pub ShowSame : Advance → Advance → Type 0
-ShowSame a b = (a .number ≡ b .number) × (a .from ≡ b .from) × (a .end ≡ b .end)
+-- what step number i from the start gives: its number, and where the descriptor shown begins and ends
+abbrev pub stepFrom : Cursor → List ℕ → ℕ → ℕ × ℕ × ℕ
+stepFrom c s i = let a = advanceOf s (cursorAfter i s c) in (a .number, a .from, a .end)
 
+-- where strict gives 0, each step gives the same as the old way's
 abbrev pub StrictShowsSame : Type 0
-StrictShowsSame =
-    (label : Bool) (s : List ℕ) (i : ℕ) → listOk label true s ≡ true
-    → ShowSame (advanceOf s (cursorAfter i s (cursorAtStart label true))) (advanceOf s (cursorAfter i s (cursorAtStart label false)))
+StrictShowsSame = (label : Bool) (s : List ℕ) (i : ℕ) → listOk label true s ≡ true → stepFrom (cursorAtStart label true) s i ≡ stepFrom (cursorAtStart label false) s i
 
 -- no descriptor is left out of the count, or of what is shown
 abbrev pub StrictLeavesNone : Type 0

@@ -3,7 +3,7 @@
 use mathlib.Core.Path.{_≡_}
 use mathlib.Core.List.{List, [], _∷_, _++_}
 use Prim.Native.Nat.{ℕ, _≤_, _<_}
-use lib.ListN.{length, replicate}
+use lib.ListN.{length, take, drop, replicate}
 use Rattle.octets.specs.Unique.{UniqueBy}
 use Rattle.wording.specs.Ascii.{ascii}
 use Rattle.keypage.specs.Page.{pageMax}
@@ -33,11 +33,9 @@ abbrev pub ExampleListed : Type 0
 ExampleListed =
     listing examplePage ≡ ascii "scope 2\nlock 0\nencrypt 2\ndecrypt 2\nalgorithm 2\nformat 4\nkey length 46\ndescriptors 0\n"
 
--- that page with one empty descriptor after its KEY part: "A key manager wrote type 30h for 03h" (document 02, No. 7)
+-- that page with one empty descriptor at its end, and PAGE LENGTH 0042h: "A key manager wrote type 30h for 03h" (document 02, No. 7)
 abbrev pub pageWith : ℕ → List ℕ
-pageWith type =
-    0x00 ∷ 0x10 ∷ 0x00 ∷ 0x42 ∷ 0x40 ∷ 0x00 ∷ 0x02 ∷ 0x02 ∷ 0x02 ∷ 0x04 ∷ replicate 8 0
-    ++ 0x00 ∷ 0x2E ∷ 0x00 ∷ 0x02 ∷ 0x00 ∷ 0x02 ∷ 0x4B ∷ 0x31 ∷ replicate 40 0 ++ type ∷ 0x00 ∷ 0x00 ∷ 0x00 ∷ []
+pageWith type = take 3 examplePage ++ 0x42 ∷ drop 4 examplePage ++ type ∷ 0x00 ∷ 0x00 ∷ 0x00 ∷ []
 
 abbrev pub WrongTypeListed : Type 0
 WrongTypeListed =
