@@ -33,7 +33,7 @@ StrictExactly =
     (label : Bool) (s : List ℕ) (n : ℕ)
     → (listAnswer label true s ≡ (0, n ∷ [])) ↔ ((listAnswer label false s ≡ (0, n ∷ [])) × NoneReserved label (split s .0))
 
--- what step number i from the start gives: its number, and where the descriptor shown begins and ends
+-- what step number i from a cursor gives: its number, and where the descriptor shown begins and ends
 abbrev pub stepFrom : Cursor → List ℕ → ℕ → ℕ × ℕ × ℕ
 stepFrom c s i = let a = advanceOf s (cursorAfter i s c) in (a .number, a .from, a .end)
 
