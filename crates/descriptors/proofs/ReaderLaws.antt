@@ -14,7 +14,8 @@ use Rattle.descriptors.specs.Parse.{Split}
 use Rattle.descriptors.specs.Tested.{listOk, unreserved, countOf}
 use Rattle.descriptors.specs.Steps.{cursorAtStart, advanceOf, partShown, cursorAfter}
 use Rattle.descriptors.specs.Readers.{standing, openedOf, shownSays, shownOf, nextOf}
-use Rattle.descriptors.specs.ReaderLaws.{ReaderRun, ReaderCounts, ReaderShows, ReaderThenNothing, ReaderStrictExactly, ReaderStrictSame, ReaderRefusedStays, ReaderOpenUnique, ReaderNextUnique, PartAtUnique}
+use Rattle.descriptors.specs.ReaderLaws.{ReaderRun, ReaderCounts, ReaderShows, ReaderThenNothing, ReaderStrictExactly, ReaderStrictSame}
+use Rattle.descriptors.specs.ReaderLaws.{ReaderRefusedStays, ReaderOpenUnique, ReaderNextUnique, PartAtUnique}
 use Rattle.descriptors.specs.declared.cursor.Cursor.{Cursor}
 use Rattle.descriptors.specs.declared.cursor.Advance.{Advance}
 use Rattle.descriptors.specs.declared.cursor.Begun.{Begun}
