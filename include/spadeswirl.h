@@ -290,6 +290,16 @@ uint8_t spadeswirl_open(const uint8_t *table, size_t table_len,
                         const uint8_t *aad, size_t aad_len,
                         uint8_t *out, size_t out_len, uint64_t *n);
 
+/*
+ * Verifies a record: the number that spadeswirl_open gives where there is room
+ * for the plaintext, and none of the plaintext. Numbers: those of
+ * spadeswirl_open but 5. By the same table, record and associated data, 0 is
+ * given exactly when spadeswirl_open gives 0 into n bytes or more.
+ */
+uint8_t spadeswirl_verify(const uint8_t *table, size_t table_len,
+                          const uint8_t *record, size_t record_len,
+                          const uint8_t *aad, size_t aad_len);
+
 /* Tests a record's layout, without table or key. Numbers: 0, 2, 3, 4. */
 uint8_t spadeswirl_record_check(const uint8_t *record, size_t record_len);
 

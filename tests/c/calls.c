@@ -33,6 +33,7 @@ static uint8_t table_check(void) { return spadeswirl_table_check(S(0)); }
 static uint8_t find(void) { return spadeswirl_find(S(0), sixteen_bits(numbers[0]), S(1), STORED); }
 static uint8_t seal(void) { return spadeswirl_seal(S(0), S(1), S(2), S(3), S(4), OUT); }
 static uint8_t open_record(void) { return spadeswirl_open(S(0), S(1), S(2), OUT, STORED); }
+static uint8_t verify(void) { return spadeswirl_verify(S(0), S(1), S(2)); }
 static uint8_t record_check(void) { return spadeswirl_record_check(S(0)); }
 static uint8_t list_check(void) { return spadeswirl_list_check(S(0), FLAG(0), STORED); }
 static uint8_t list_check_as(void) { return spadeswirl_list_check_as(S(0), FLAG(0), FLAG(1), STORED); }
@@ -53,7 +54,7 @@ static const struct call calls[] = {
     { "wrap", 2, 0, OUTPUT, 0, wrap }, { "unwrap", 2, 0, OUTPUT, 0, unwrap },
     { "table_check", 1, 0, NOTHING, 0, table_check }, { "find", 2, 1, NOTHING, 1, find },
     { "seal", 5, 0, OUTPUT, 0, seal }, { "open", 3, 0, OUTPUT, 1, open_record },
-    { "record_check", 1, 0, NOTHING, 0, record_check },
+    { "verify", 3, 0, NOTHING, 0, verify }, { "record_check", 1, 0, NOTHING, 0, record_check },
     { "list_check", 1, 1, NOTHING, 1, list_check }, { "list_check_as", 1, 2, NOTHING, 1, list_check_as },
     { "list_step", 1, 3, NOTHING, 2, list_step }, { "label_check", 1, 0, NOTHING, 1, label_check },
     { "page_read", 1, 0, NOTHING, 14, page_read }, { "page_load", 2, 0, OUTPUT, 14, page_load },

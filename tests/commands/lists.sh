@@ -9,13 +9,6 @@ input=examples/label.bin
 gives "label on standard input" 0 label examples/label.bin
 input=
 
-# shows NAME COMMAND FILE: the text is what stands on standard input.
-shows() {
-    cat >"$room/wanted"
-    want 0
-    spadeswirl "$2" "$3" </dev/null
-    hold "$1" 0
-}
 # descriptor TYPE HEX ..: its bytes.
 descriptor() {
     local type=$1 digits

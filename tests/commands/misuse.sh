@@ -14,7 +14,7 @@ helps() {
 }
 helps "help"
 commands=$(sed -nE 's/^(usage:|      ) \.\/spadeswirl ([a-z-]+).*/\2/p' "$room/wrote" | grep -vx help | sort | xargs)
-[ "$commands" = "check-table descriptors label list-page open seal" ]
+[ "$commands" = "check-table descriptors label list-page open report seal verify" ]
 test_that $? "help lists these commands: $commands"
 for command in $commands; do
     helps "help $command" $command
@@ -40,6 +40,10 @@ misuse "seal, words too few" seal $table $gcm $iv
 misuse "seal, words too many" seal $table $gcm $iv $plain $data $data
 misuse "open, words too few" open $table
 misuse "open, words too many" open $table $record $data $data
+misuse "verify, words too few" verify $table
+misuse "verify, words too many" verify $table $record $data $data
+misuse "report, words too few" report $table
+misuse "report, words too many" report $table examples/dump.bin examples/dump.bin
 misuse "check-table, words too few" check-table
 misuse "check-table, words too many" check-table $table $table
 misuse "descriptors, words too few" descriptors
@@ -52,10 +56,17 @@ misuse "a name with an odd digit" seal $table ${gcm}0 $iv $plain
 misuse "an IV that is no hex" seal $table $gcm 00000001000000000000000g $plain
 misuse "an IV with a space" seal $table $gcm "00000001 00000000000001" $plain
 misuse "a name on standard input" seal $table - $iv $plain
-misuse "two files on standard input" open - -
+for command in open verify report; do
+    misuse "$command, two files on standard input" $command - -
+done
 misuse "no such table" check-table "$room/none"
 misuse "no such record" open $table "$room/none" $data
 misuse "no such associated data" open $table $record "$room/none"
+misuse "no such table" verify "$room/none" $record $data
+misuse "no such record" verify $table "$room/none" $data
+misuse "no such associated data" verify $table $record "$room/none"
+misuse "no such table" report "$room/none" examples/dump.bin
+misuse "no such dump" report $table "$room/none"
 misuse "no such data" seal $table $gcm $iv "$room/none"
 misuse "no such label" label "$room/none"
 misuse "no such page" descriptors "$room/none"
@@ -63,15 +74,18 @@ misuse "no such page" list-page "$room/none"
 misuse "a file with a number for its name" label "6: no row of that type and name"
 misuse "an empty file name" label ""
 misuse "a file name of 5,000 bytes" label "$(printf '%05000d' 0)"
-for words in "check-table $room" "open $table $room" "label $room" "descriptors $room" "list-page $room" "seal $table $gcm $iv $plain $room"; do
+for words in "check-table $room" "open $table $room" "verify $table $room" "report $room examples/dump.bin" "report $table $room" "label $room" \
+    "descriptors $room" "list-page $room" "seal $table $gcm $iv $plain $room"; do
     # shellcheck disable=SC2086
     misuse "a folder: ${words%% *}" $words
 done
 if [ -w /dev/full ]; then
-    ./spadeswirl open $table $record $data >/dev/full 2>"$room/said"
-    status=$?
-    : >"$room/wrote"
-    : >"$room/wanted"
-    echo "cannot write: No space left on device" >"$room/wanted-said"
-    hold "a full disk" 2
+    for words in "open $table $record $data" "report $table examples/dump.bin"; do
+        ./spadeswirl $words >/dev/full 2>"$room/said"
+        status=$?
+        : >"$room/wrote"
+        : >"$room/wanted"
+        echo "cannot write: No space left on device" >"$room/wanted-said"
+        hold "a full disk: ${words%% *}" 2
+    done
 fi

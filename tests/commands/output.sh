@@ -25,7 +25,7 @@ for words in "seal $room/broken $gcm $iv $plain" "seal $table $gcm 00 $plain" "s
     leaves "-o, refused: ${words%% *}, $(cat "$room/said")" 1 $plain
 done
 for words in "seal $table $gcm $iv $room/none" "seal $table $gcm $iv" "open $table" "open $table $room/none" "label examples/label.bin" "check-table $table" \
-    "list-page examples/pages/plain.bin" "descriptors examples/pages/plain.bin"; do
+    "list-page examples/pages/plain.bin" "descriptors examples/pages/plain.bin" "verify $table $record $data" "report $table examples/dump.bin"; do
     spadeswirl $words -o "$file" </dev/null
     leaves "-o, misused: $words" 2 $plain
 done

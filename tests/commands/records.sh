@@ -1,5 +1,11 @@
 # shellcheck shell=bash disable=SC2034,SC2086,SC2154
-# Sourced by tests/console: sealing, opening, and key tables.
+# Sourced by tests/console: sealing, opening and verifying, and key tables.
+
+# opens NAME N WORD ..: the words for `verify`, which prints nothing, and then for `open`; both give N.
+opens() {
+    gives "verify: $1" "$2" verify "${@:3}"
+    gives "open: $1" "$2" open "${@:3}"
+}
 
 # ---- the files of examples/
 
@@ -16,11 +22,11 @@ gives "seal by GCM" 0 seal $table $gcm $iv $plain $data
 same "the record of examples/" "$room/wrote" examples/records/gcm.bin
 gives "seal by CCM" 0 seal $table $ccm 000000010000000000000002 $plain $data
 same "the record of examples/" "$room/wrote" examples/records/ccm.bin
-gives "open by GCM" 0 open $table examples/records/gcm.bin $data
+opens "by GCM" 0 $table examples/records/gcm.bin $data
 same "the plaintext of examples/" "$room/wrote" $plain
-gives "open by CCM" 0 open $table examples/records/ccm.bin $data
+opens "by CCM" 0 $table examples/records/ccm.bin $data
 same "the plaintext of examples/" "$room/wrote" $plain
-gives "open a damaged record" 9 open $table examples/records/damaged.bin $data
+opens "a damaged record" 9 $table examples/records/damaged.bin $data
 gives "check-table" 0 check-table $table
 
 # ---- there and back, at lengths about the blocks, with data of any bytes and with lines and zero bytes
@@ -30,14 +36,14 @@ for n in 0 1 15 16 17 31 33 255 4096 65537 1048575 1048576; do
     for name in $gcm $ccm; do
         gives "seal $n bytes by $name" 0 seal $table $name $iv "$room/plain"
         cp "$room/wrote" "$room/record"
-        gives "open $n bytes by $name" 0 open $table "$room/record"
+        opens "$n bytes by $name" 0 $table "$room/record"
         same "$n bytes there and back by $name" "$room/wrote" "$room/plain"
     done
 done
 printf '\n\n6: no row of that type and name\n\0\0\n-\n' >"$room/lines"
 gives "lines and zero bytes" 0 seal $table $gcm $iv "$room/lines" "$room/lines"
 cp "$room/wrote" "$room/record"
-gives "lines and zero bytes, opened" 0 open $table "$room/record" "$room/lines"
+opens "lines and zero bytes" 0 $table "$room/record" "$room/lines"
 same "lines and zero bytes, there and back" "$room/wrote" "$room/lines"
 gives "an IV in small digits" 0 seal $table $gcm abcdef0123456789abcdef01 $plain
 gives "an IV in capital digits" 0 seal $table $gcm ABCDEF0123456789ABCDEF01 $plain
@@ -50,18 +56,21 @@ for word in $table $plain $data; do
 done
 for word in $table examples/records/ccm.bin $data; do
     input=$word
-    gives "open, $word on standard input" 0 open $table examples/records/ccm.bin $data
+    opens "$word on standard input" 0 $table examples/records/ccm.bin $data
 done
 input=$table
 gives "check-table on standard input" 0 check-table $table
 input=
-spadeswirl open $table - <examples/records/damaged.bin
-want 9
-hold "a damaged record on standard input" 1
-spadeswirl open $table - $data < <(head -c 50 $record; sleep 0.2; tail -c +51 $record)
-cp $plain "$room/wanted"
-: >"$room/wanted-said"
-hold "a record that comes in two parts" 0
+for command in verify open; do
+    spadeswirl $command $table - <examples/records/damaged.bin
+    : >"$room/wanted"
+    want 9
+    hold "$command: a damaged record on standard input" 1
+    spadeswirl $command $table - $data < <(head -c 50 $record; sleep 0.2; tail -c +51 $record)
+    [ $command = verify ] || cp $plain "$room/wanted"
+    want 0
+    hold "$command: a record that comes in two parts" 0
+done
 
 # ---- tables: none, the most and one more, broken
 
@@ -104,7 +113,7 @@ unfit() {
     shift
     kinds "$@" >"$room/unfit"
     gives "$name" 1 check-table "$room/unfit"
-    gives "$name, and a record" 1 open "$room/unfit" $record $data
+    opens "$name" 1 "$room/unfit" $record $data
 }
 unfit "a table of the old kind, whose key-encrypting key has no type" 030000
 unfit "a table of the old kind, with a row for GCM" 020000 030000
@@ -142,7 +151,7 @@ same "the record of examples/" "$room/wrote" examples/records/gcm.bin
 gives "seal, the lowest of all" 1 seal "$room/broken" "${last}00" 00 "$room/plain1" "$room/data1"
 gives "seal, 2 before 4" 2 seal $table "${last}00" 00 "$room/plain1" "$room/data1"
 
-# ---- opening refused
+# ---- opening and verifying refused
 
 with $table 9 01 >"$room/other-use"
 # a header of mode, k and n, and zeros to the record's end: what is over a maximum is refused before the tag
@@ -154,23 +163,23 @@ with $record 3 01 >"$room/byte3"
 laid 02 32 1048577 >"$room/wide"
 laid 01 33 5 >"$room/name33"
 laid 02 32 2000000 >"$room/wider"
-gives "open by a broken table" 1 open "$room/broken" $record $data
-gives "open a record that is a byte short" 2 open $table "$room/short" $data
-gives "open a record of a byte more" 2 open $table "$room/more" $data
-gives "open an empty file" 2 open $table /dev/null
-gives "open, byte 3 not zero" 2 open $table "$room/byte3" $data
-gives "open, mode 03h" 3 open $table "$room/mode3" $data
-gives "open, n = 1,048,577: 1,048,661 bytes" 4 open $table "$room/wide"
-gives "open, n = 2,000,000" 4 open $table "$room/wider"
-gives "open, a name of 33 bytes" 4 open $table "$room/name33"
-gives "open, 4,097 bytes of associated data" 4 open $table $record "$room/data1"
-gives "open by a table without the name" 6 open "$room/empty" $record $data
-gives "open by key-encrypting keys of both types" 6 open "$room/keks" $record $data
-gives "open where key-encrypting keys have the name too" 0 open "$room/three" $record $data
-gives "open by a row of another use" 7 open "$room/other-use" $record $data
-gives "open with other associated data" 9 open $table $record $plain
-gives "open without the associated data" 9 open $table $record
+opens "by a broken table" 1 "$room/broken" $record $data
+opens "a record that is a byte short" 2 $table "$room/short" $data
+opens "a record of a byte more" 2 $table "$room/more" $data
+opens "an empty file" 2 $table /dev/null
+opens "byte 3 not zero" 2 $table "$room/byte3" $data
+opens "mode 03h" 3 $table "$room/mode3" $data
+opens "n = 1,048,577: 1,048,661 bytes" 4 $table "$room/wide"
+opens "n = 2,000,000" 4 $table "$room/wider"
+opens "a name of 33 bytes" 4 $table "$room/name33"
+opens "4,097 bytes of associated data" 4 $table $record "$room/data1"
+opens "by a table without the name" 6 "$room/empty" $record $data
+opens "by key-encrypting keys of both types" 6 "$room/keks" $record $data
+opens "where key-encrypting keys have the name too" 0 "$room/three" $record $data
+opens "by a row of another use" 7 "$room/other-use" $record $data
+opens "with other associated data" 9 $table $record $plain
+opens "without the associated data" 9 $table $record
 head -c 1048576 "$room/plain1" >"$room/plain"
 gives "seal the largest record" 0 seal "$room/full" $last $iv "$room/plain" "$room/data"
 cp "$room/wrote" "$room/largest"
-gives "open the largest record, 1,048,660 bytes" 0 open "$room/full" "$room/largest" "$room/data"
+opens "the largest record, 1,048,660 bytes" 0 "$room/full" "$room/largest" "$room/data"

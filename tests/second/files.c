@@ -2,9 +2,9 @@
  * The second program on files, with the words of ./spadeswirl: what it writes to standard output is what that is to
  * write, and the number is on standard error. It is also what seals the records of examples/.
  */
+#include "model/dumps.h"
 #include "model/lists.h"
 #include "model/pages.h"
-#include "model/records.h"
 
 static struct bytes file(const char *path)
 {
@@ -40,6 +40,22 @@ static size_t put_list(struct bytes list, int label, unsigned long long count, c
     return (size_t)(end - text);
 }
 
+/* The text of a report, with a line for each row in the table's order, its name in capital digits. How long it is. */
+static size_t put_report(struct bytes table, const struct dump_report *report, char *text)
+{
+    char *end = text + sprintf(text, "records %llu\nbytes %llu\n", report->records, report->bytes);
+    for (unsigned i = 0; i < two(table.at + 2); i++) {
+        const unsigned char *row = table.at + 8 + 72 * i;
+        end += sprintf(end, "open ");
+        for (unsigned k = 0; k < row[0]; k++)
+            end += sprintf(end, "%02X", row[8 + k]);
+        end += sprintf(end, " %llu\n", report->open[i]);
+    }
+    end += sprintf(end, "tail %llu\n", report->tail);
+    return (size_t)(end - text);
+}
+
+/* `count` is how many bytes are written: after a refusal none, but for a report's own line. */
 int main(int argc, char **argv)
 {
     const char *command = argc > 2 ? argv[1] : "";
@@ -49,10 +65,22 @@ int main(int argc, char **argv)
     if (strcmp(command, "seal") == 0 && argc >= 6) {
         struct bytes w[] = { file(argv[2]), from_hex(argv[3]), from_hex(argv[4]), optional(argv[6]), file(argv[5]) };
         number = seal(w, out);
-        count = HEADER + w[1].len + IV + w[4].len + TAG;
+        if (!number)
+            count = HEADER + w[1].len + IV + w[4].len + TAG;
     } else if (strcmp(command, "open") == 0 && argc >= 4) {
         struct bytes w[] = { file(argv[2]), file(argv[3]), optional(argv[4]) };
         number = open_record(w, out, &count);
+    } else if (strcmp(command, "verify") == 0 && argc >= 4) {
+        struct bytes w[] = { file(argv[2]), file(argv[3]), optional(argv[4]) };
+        number = verify_record(w);
+    } else if (strcmp(command, "report") == 0 && argc >= 4) {
+        struct bytes table = file(argv[2]), dump = file(argv[3]);
+        struct dump_report report;
+        number = report_dump(table, dump, &report);
+        if (!number)
+            count = put_report(table, &report, (char *)out.at);
+        else
+            count = (unsigned long long)sprintf((char *)out.at, "refused %d\n", number);
     } else if (strcmp(command, "check-table") == 0) {
         struct bytes table = file(argv[2]);
         number = table_bad(table);
@@ -75,8 +103,7 @@ int main(int argc, char **argv)
     } else {
         fail("no such command", command);
     }
-    if (!number)
-        fwrite(out.at, 1, count, stdout);
+    fwrite(out.at, 1, count, stdout);
     fprintf(stderr, "%d\n", number);
     return 0;
 }

@@ -53,6 +53,7 @@ static int call_table_check(struct asked a) { return table_bad(a.w[0]); }
 static int call_find(struct asked a) { return find(a.w, sixteen_bits(a.n[0]), a.stored); }
 static int call_seal(struct asked a) { return seal(a.w, a.out); }
 static int call_open(struct asked a) { return open_record(a.w, a.out, a.stored); }
+static int call_verify(struct asked a) { return verify_record(a.w); }
 static int call_record_check(struct asked a) { return record_check(a.w[0]); }
 static int call_list_check(struct asked a) { return list_check(a.w[0], a.n[0] != 0, a.stored); }
 static int call_list_check_as(struct asked a) { return list_check_as(a.w[0], a.n[0] != 0, a.n[1] != 0, a.stored); }
@@ -87,6 +88,7 @@ static const struct call {
     { "find", 2, 1, NOTHING, 1, call_find },
     { "seal", 5, 0, OUTPUT, 0, call_seal },
     { "open", 3, 0, OUTPUT, 1, call_open },
+    { "verify", 3, 0, NOTHING, 0, call_verify },
     { "record_check", 1, 0, NOTHING, 0, call_record_check },
     { "list_check", 1, 1, NOTHING, 1, call_list_check },
     { "list_check_as", 1, 2, NOTHING, 1, call_list_check_as },

@@ -22,3 +22,6 @@ longRoom = 4194304
 
 abbrev pub pageRoom : ℕ
 pageRoom = 65540
+
+abbrev pub dumpRoom : ℕ
+dumpRoom = 65537

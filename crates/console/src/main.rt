@@ -5,6 +5,7 @@ mod labels;
 mod meanings;
 mod opening;
 mod pages;
+mod reports;
 mod rooms;
 mod saying;
 mod sealing;
@@ -13,11 +14,15 @@ mod taking;
 
 use octets::strings::equal;
 
+// Each command is called in one place, so that the compiler can lay the rooms of one over those of another: the stack would not hold all side by side.
 fn run(command: &[u8]) {
+    let only_verify = equal(command, b"verify");
     if equal(command, b"seal") {
         sealing::seal();
-    } else if equal(command, b"open") {
-        opening::open();
+    } else if only_verify | equal(command, b"open") {
+        opening::open(only_verify);
+    } else if equal(command, b"report") {
+        reports::report();
     } else if equal(command, b"check-table") {
         tables::check_table();
     } else if equal(command, b"label") {

@@ -1,4 +1,4 @@
-// open TABLE RECORD [ASSOCIATED]
+// open TABLE RECORD [ASSOCIATED], and verify TABLE RECORD [ASSOCIATED], which gives nothing but a refusal.
 use crate::rooms::associated_room;
 use crate::rooms::long_room;
 use crate::rooms::plain_room;
@@ -20,7 +20,22 @@ fn open_bytes(table: &[u8], record: &[u8], associated: &[u8]) {
     write_out(part(&plain, 0, count as usize));
 }
 
-pub(crate) fn open() {
+fn verify_bytes(table: &[u8], record: &[u8], associated: &[u8]) {
+    let number = record::opening::verify(table, record, associated);
+    if number != 0 {
+        refuse(number);
+    }
+}
+
+fn open_or_verify(table: &[u8], record: &[u8], associated: &[u8], only_verify: bool) {
+    if only_verify {
+        verify_bytes(table, record, associated);
+    } else {
+        open_bytes(table, record, associated);
+    }
+}
+
+pub(crate) fn open(only_verify: bool) {
     let mut table = table_room();
     let t = take_file(2, &mut table);
     if !t.whole {
@@ -39,9 +54,10 @@ pub(crate) fn open() {
     let table_size = t.size;
     let record_size = r.size;
     let associated_size = a.size;
-    open_bytes(
+    open_or_verify(
         &table[..table_size],
         &record[..record_size],
         &associated[..associated_size],
+        only_verify,
     );
 }

@@ -1,7 +1,7 @@
 // Room for what is read, at least a byte more than the unit accepts, so that the library's own number refuses what is longer; and for what is written.
 ghost use mathlib.Core.Path.{_≡_};
 ghost use lib.ListN.{length};
-ghost use Rattle.console.specs.Rooms.{tableRoom, associatedRoom, wordRoom, plainRoom, recordRoom, longRoom, pageRoom};
+ghost use Rattle.console.specs.Rooms.{tableRoom, associatedRoom, wordRoom, plainRoom, recordRoom, longRoom, pageRoom, dumpRoom};
 
 // 8 + 72 * 64 bytes of a table, and one more.
 const TABLE_ROOM: usize = 4617;
@@ -23,6 +23,9 @@ const LONG_ROOM: usize = 4194304;
 
 // A page to be judged: what its own length can say, 65,535 and the four bytes before, and one more, which is 2 whatever the page says.
 const PAGE_ROOM: usize = 65540;
+
+// A dump: 65,536 bytes, and one more.
+const DUMP_ROOM: usize = 65537;
 
 pub(crate) fn table_room() -> [u8; TABLE_ROOM]
     ensures { λ r. ⌜ tableRoom ≡ length r ⌝ }
@@ -64,4 +67,10 @@ pub(crate) fn page_room() -> [u8; PAGE_ROOM]
     ensures { λ r. ⌜ pageRoom ≡ length r ⌝ }
 {
     [0; PAGE_ROOM]
+}
+
+pub(crate) fn dump_room() -> [u8; DUMP_ROOM]
+    ensures { λ r. ⌜ dumpRoom ≡ length r ⌝ }
+{
+    [0; DUMP_ROOM]
 }

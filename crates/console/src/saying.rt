@@ -3,6 +3,7 @@ use descriptor_text::Described;
 use libc::STDERR_FILENO;
 use libc::STDOUT_FILENO;
 use octets::strings::part;
+use report_text::Reported;
 use wording::meaning::meaning;
 use wording::writing::put_line;
 
@@ -50,4 +51,15 @@ pub(crate) fn say_described(d: Described) {
         return;
     }
     write_out(part(&bytes, 0, size));
+}
+
+// The text of a report, which is `refused` and the number where it is refused; then what the number means goes to standard error.
+pub(crate) fn say_reported(r: Reported) {
+    let number = r.number;
+    let size = r.size;
+    let bytes = r.bytes;
+    write_out(part(&bytes, 0, size));
+    if number != 0 {
+        refuse(number);
+    }
 }

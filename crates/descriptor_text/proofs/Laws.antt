@@ -15,6 +15,7 @@ use Rattle.wording.specs.Decimal.{digitsWithin, decimal}
 use Rattle.wording.specs.Hex.{digitOf, digitsOf, digitsShown}
 use Rattle.descriptors.specs.Descriptor.{sizeSaid, sizeOf}
 use Rattle.descriptors.specs.Labels.{listOf, labelNumber}
+use Rattle.octets.specs.Split.{splitBy}
 use Rattle.descriptors.specs.Parse.{split}
 use Rattle.descriptors.specs.Tested.{unreserved}
 use Rattle.keypage.specs.Page.{listIn}
@@ -28,11 +29,11 @@ use Rattle.descriptor_text.proofs.Room.{text-length}
 use Rattle.descriptor_text.proofs.Texts.{label-list-ok, page-list-ok, page-refused}
 
 pub example-text : ExampleText
-unfolding listText descriptorLines descriptorLine digitsShown digitsOf digitOf decimal digitsWithin unreserved split sizeOf sizeSaid
+unfolding listText descriptorLines descriptorLine digitsShown digitsOf digitOf decimal digitsWithin unreserved split splitBy sizeOf sizeSaid
 example-text = refl
 
 pub empty-text : EmptyText
-unfolding listText descriptorLines decimal digitsWithin unreserved split
+unfolding listText descriptorLines decimal digitsWithin unreserved split splitBy
 empty-text = refl
 
 -- ---- a page with a reserved descriptor

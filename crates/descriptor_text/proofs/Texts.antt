@@ -12,8 +12,8 @@ use Rattle.octets.proofs.Lent.{over-empty}
 use Rattle.octets.proofs.Tests.{part-rest}
 use Rattle.wording.specs.Ascii.{ascii}
 use Rattle.wording.specs.Lines.{line}
-use Rattle.wording.specs.Writing.{putAt, Wrote}
-use Rattle.wording.proofs.Wrote.{put-fits, wrote-front}
+use Rattle.wording.specs.Writing.{putAt, Wrote, WroteIfFits}
+use Rattle.wording.proofs.Wrote.{put-wrote-if, both-wrote, wrote-front}
 use Rattle.descriptors.specs.Labels.{labelMax, listOf, labelStrict, labelNumber, labelAnswer}
 use Rattle.descriptors.specs.Steps.{cursorAtStart, begunOf}
 use Rattle.descriptors.specs.Tested.{listOk, countOf}
@@ -25,9 +25,8 @@ use Rattle.keypage.specs.Page.{keyPartAt, keyLength, pageStrict, listIn, fields
 use Rattle.keypage.specs.Read.{pageReadNumber, pageReadAnswer}
 use Rattle.keypage.proofs.Laws.{reads-exactly}
 use Rattle.descriptor_text.specs.Lines.{descriptorLines, listText}
-use Rattle.descriptor_text.specs.Shown.{WroteIfFits, shownBy}
+use Rattle.descriptor_text.specs.Shown.{shownBy}
 use Rattle.descriptor_text.specs.Described.{describedRoom, describedAs, labelDescribed, pageDescribed}
-use Rattle.descriptor_text.proofs.Written.{both-wrote}
 use Rattle.descriptor_text.proofs.Shown.{shown-all}
 use Rattle.descriptor_text.proofs.Room.{text-length}
 
@@ -47,8 +46,7 @@ module _ (label strict : Bool) (s : List ℕ) (b : Begun) (begun : b ≡ begunOf
       → putAt 0 (line (ascii "descriptors") (b .count)) room ≡ (m, between)
       → WroteIfFits m (descriptorLines (shownBy (b .count) s (b .place))) between final e → Wrote 0 (listText label s) room final e
   list-wrote room {m} {e} {between} {final} short enough counts lines =
-      let head : WroteIfFits 0 (line (ascii "descriptors") (b .count)) room between m = record { wrote = λ h. put-fits 0 (line (ascii "descriptors") (b .count)) room h counts } in
-      let all : WroteIfFits 0 (listText label s) room final e = rw (← whole-text) (both-wrote head lines) in
+      let all : WroteIfFits 0 (listText label s) room final e = rw (← whole-text) (both-wrote (put-wrote-if counts) lines) in
       all .wrote (omega (arith, text-length label s short, enough))
 
 -- ---- the answer by value

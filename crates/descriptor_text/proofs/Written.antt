@@ -10,23 +10,11 @@ use Rattle.octets.specs.Tests.{partOf}
 use Rattle.octets.proofs.Tests.{part-rest}
 use Rattle.wording.specs.Hex.{digitsOf, digitsShown}
 use Rattle.wording.specs.Lines.{space, newline}
-use Rattle.wording.specs.Writing.{putAt, Wrote}
-use Rattle.wording.proofs.Wrote.{done, puts, puts-wrote, wrote-then, wrote-length}
+use Rattle.wording.specs.Writing.{putAt, WroteIfFits}
+use Rattle.wording.proofs.Wrote.{done, puts, puts-wrote, nothing-wrote, both-wrote}
 use Rattle.descriptors.specs.declared.cursor.Cursor.{Cursor}
 use Rattle.descriptor_text.specs.Lines.{descriptorLine, descriptorLines}
-use Rattle.descriptor_text.specs.Shown.{WroteIfFits, StepWrote, shownBy}
-
-nothing-wrote : (at : ℕ) (room : List ℕ) → WroteIfFits at [] room room at
-nothing-wrote at room = record { wrote = λ h. puts-wrote done h }
-
-pub both-wrote : {at m e : ℕ} {s t before between final : List ℕ} → WroteIfFits at s before between m → WroteIfFits m t between final e → WroteIfFits at (s ++ t) before final e
-both-wrote {at} {m} {e} {s} {t} {before} {between} {final} f g = record { wrote = both }
-  where
-    both : at + length (s ++ t) ≤ length before → Wrote at (s ++ t) before final e
-    both h =
-        let size = length-append s t in
-        let first = f .wrote (omega arith) in
-        wrote-then first (g .wrote (omega (arith, first .place, wrote-length first)))
+use Rattle.descriptor_text.specs.Shown.{StepWrote, shownBy}
 
 -- ---- the pieces of a line
 

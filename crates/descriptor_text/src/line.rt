@@ -4,7 +4,7 @@ use wording::writing::put_byte;
 use wording::writing::put_hex;
 use wording::writing::put_shown;
 ghost use Rattle.descriptor_text.specs.Lines.{descriptorLine};
-ghost use Rattle.descriptor_text.specs.Shown.{WroteIfFits};
+ghost use Rattle.wording.specs.Writing.{WroteIfFits};
 
 // Where a descriptor's length stands, after its type and a zero byte, and where its bytes begin.
 const LENGTH_AT: usize = 2;

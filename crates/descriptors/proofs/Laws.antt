@@ -14,7 +14,8 @@ use Rattle.octets.specs.Tests.{all, every, zeros, partOf}
 use Rattle.octets.proofs.Tests.{and-left, and-right, every-at}
 use Rattle.octets.proofs.Values.{cons-equal}
 use Rattle.descriptors.specs.Descriptor.{typeOf, isReserved, isRefused, isDescriptor, sizeOf, sizeSaid}
-use Rattle.descriptors.specs.Parse.{Split, split, parse}
+use Rattle.octets.specs.Split.{Split, splitBy}
+use Rattle.descriptors.specs.Parse.{split, parse}
 use Rattle.descriptors.specs.Tested.{admits, risesFrom, splitTests, splitOk, listOk, unreserved, listAnswer}
 use Rattle.descriptors.specs.Steps.{firstShown, splitStep, stepAnswer, advanceOf}
 use Rattle.descriptors.specs.Labels.{labelMax, listOf, labelShape, labelStrict, labelOk, labelNumber, labelAnswer, present}
@@ -174,7 +175,7 @@ accepts-label s n = (to, from)
         label-accepted s n (label-list s (parts-label s n h) ∙ ok) (h .short) count
 
 pub label-claim : LabelClaim
-unfolding labelOk present splitOk risesFrom unreserved split sizeOf sizeSaid all
+unfolding labelOk present splitOk risesFrom unreserved split splitBy sizeOf sizeSaid all
 label-claim = (refl, refl, refl)
 
 -- ---- "The lowest that applies is given, and no other."

@@ -10,7 +10,7 @@ use denote.Ref.{RefT, now}
 use Rattle.octets.specs.Tests.{partOf}
 use Rattle.octets.specs.Places.{Placed, placed, partIn}
 use Rattle.octets.proofs.Unique.{unique}
-use Rattle.descriptors.specs.Parse.{Split}
+use Rattle.octets.specs.Split.{Split}
 use Rattle.descriptors.specs.Tested.{listOk, unreserved, countOf}
 use Rattle.descriptors.specs.Steps.{cursorAtStart, advanceOf, partShown, cursorAfter}
 use Rattle.descriptors.specs.Readers.{standing, openedOf, shownSays, shownOf, nextOf}

@@ -10,7 +10,8 @@ use lib.ListN.{length, getD}
 use Rattle.octets.specs.Tests.{all}
 use Rattle.octets.proofs.Tests.{all-at, and-left}
 use Rattle.descriptors.specs.Descriptor.{typeOf, isReserved, strictByDefault}
-use Rattle.descriptors.specs.Parse.{Split, split}
+use Rattle.octets.specs.Split.{Split}
+use Rattle.descriptors.specs.Parse.{split}
 use Rattle.descriptors.specs.Tested.{admits, listOk, unreserved, listAnswer}
 use Rattle.descriptors.specs.Steps.{firstShown, stepAnswer}
 use Rattle.descriptors.specs.StrictLaws.{reservedAt, NoneReserved, HasReserved, stepFrom, StrictExactly, StrictShowsSame, StrictLeavesNone, ReservedRefused, LabelAdmits}

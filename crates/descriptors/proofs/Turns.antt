@@ -15,7 +15,8 @@ use Rattle.octets.specs.Lent.{when}
 use Rattle.octets.specs.Tests.{every, all, partOf}
 use Rattle.octets.proofs.Tests.{and-left, and-right, every-not, length-part}
 use Rattle.descriptors.specs.Descriptor.{typeOf, isReserved, isRefused, sizeOf}
-use Rattle.descriptors.specs.Parse.{Split, behind, split}
+use Rattle.octets.specs.Split.{Split, behind}
+use Rattle.descriptors.specs.Parse.{split}
 use Rattle.descriptors.specs.Tested.{risesFrom, admits, splitTests, splitOk, unreserved}
 use Rattle.descriptors.specs.Steps.{firstShown, splitStep}
 use Rattle.descriptors.specs.Labels.{present}

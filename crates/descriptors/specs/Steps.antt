@@ -8,7 +8,8 @@ use lib.Dec.{eqb, ltb}
 use Rattle.octets.specs.Lent.{when, Tests, lowest, kept}
 use Rattle.octets.specs.Tests.{partOf}
 use Rattle.descriptors.specs.Descriptor.{typeOf, isReserved, isRefused}
-use Rattle.descriptors.specs.Parse.{Split, split}
+use Rattle.octets.specs.Split.{Split}
+use Rattle.descriptors.specs.Parse.{split}
 use Rattle.descriptors.specs.Tested.{listNumber, countOf}
 use Rattle.descriptors.specs.declared.cursor.Cursor.{Cursor}
 use Rattle.descriptors.specs.declared.cursor.Step.{Step}

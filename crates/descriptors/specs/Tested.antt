@@ -8,7 +8,8 @@ use lib.Dec.{eqb, leb}
 use Rattle.octets.specs.Lent.{when, Tests, lowest, kept}
 use Rattle.octets.specs.Tests.{every, all}
 use Rattle.descriptors.specs.Descriptor.{typeOf, isReserved, isRefused}
-use Rattle.descriptors.specs.Parse.{Split, split}
+use Rattle.octets.specs.Split.{Split}
+use Rattle.descriptors.specs.Parse.{split}
 use Rattle.descriptors.specs.declared.list.Tested.{Tested}
 use Rattle.descriptors.specs.declared.list.Tested.the-variants.{Counted, Refused}
 

@@ -14,20 +14,20 @@ use lib.Seq.{getD-append-seam}
 use Rattle.octets.proofs.Unique.{unique, unique-by}
 use Rattle.octets.specs.Lent.{when}
 use Rattle.octets.specs.Tests.{all, partOf}
-use Rattle.keytable.specs.Row.{rowSize, kekUse, rowNameAt, rowKeyAt, rowKeySize, nameLength, placedKey, dataType, isKekType, typeFits, Row, rowIn, matches}
+use Rattle.keytable.specs.Row.{rowSize, kekUse, rowNameAt, rowKeyAt, rowKeySize, nameLength, placedName, placedKey, dataType, isKekType, typeFits, Row, rowIn, matches}
 use Rattle.keytable.specs.Table.{rowPlace, headOk, tableOk, rows, rowParts, rowsOf, noRow, rowNumber, rowCount, distinct, holders, lookup, rowFor, rowAt, placedRow}
 use Rattle.keytable.specs.Calls.{tableNumber, tableSays, tableAnswer, findUse}
 use Rattle.keytable.specs.Find.{foundSays, placeOf, foundAnswer, rowFound}
 use Rattle.keytable.specs.declared.Found.{Found}
 use Rattle.keytable.specs.declared.Found.the-variants.{At, Nothing, Broken}
 use Rattle.keytable.specs.Laws.{MatchesExactly, NameRead, OtherLength, OtherType, DifferExactly, OneRow, AtMostOne, FindsRow}
-use Rattle.keytable.specs.Laws.{FoundRow, FindsExactly, ElseNothing, FindsBroken, RowForGood, KekByType, OwnRow}
+use Rattle.keytable.specs.Laws.{FoundRow, NumberBack, FoundNumbered, FoundKey, RowAtNumber, FindsExactly, ElseNothing, FindsBroken, RowForGood, KekByType, OwnRow}
 use Rattle.keytable.specs.Laws.{OtherRows, HoldersRow, RowMore, OtherTypeRow, KekRowMore, DataRowMore, EmptyTable}
-use Rattle.keytable.specs.Laws.{CheckTestsRise, UseTestsRise, TableCheckUnique, FindUnique, FindUseUnique, RowAtUnique, UseAtUnique, KeyAtUnique}
+use Rattle.keytable.specs.Laws.{CheckTestsRise, UseTestsRise, TableCheckUnique, FindUnique, FindUseUnique, RowAtUnique, NameAtUnique, UseAtUnique, KeyAtUnique}
 use Rattle.octets.proofs.Tests.{length-part, part-short}
 use Rattle.keytable.proofs.Accepted.{head-total, accepted-head, accepted-distinct, length-rowsOf, rowsOf-more, rowsOf-at, row-kept, part-kept}
 use Rattle.keytable.proofs.Lookup.{matches-both, both-match, unmatched, distinct-one, distinct-apart, apart-distinct, distinct-holders, asList}
-use Rattle.keytable.proofs.Lookup.{asList-injective, lookup-one, lookup-some, lookup-skips, placeOf-row, placeOf-nothing, placeOf-broken, broken-head}
+use Rattle.keytable.proofs.Lookup.{asList-injective, lookup-one, lookup-some, lookup-skips, placed-head, placeOf-number, placeOf-row, placeOf-nothing, placeOf-broken, broken-head, rowAt-within}
 use Rattle.keytable.proofs.Places.{foundIn, foundIn-says, says-same}
 use Rattle.keytable.proofs.Calls.{tableIn, tableIn-says}
 
@@ -123,6 +123,27 @@ finds-row t type name f ok e = go f (sym (says-same f (placeOf t type name) e))
     go Nothing is = absent-row t type name ok is
     go Broken is = absurd (whole t type name ok is)
 
+-- ---- the place that was found
+
+pub number-back : NumberBack
+number-back i = omega arith
+
+pub found-numbered : FoundNumbered
+found-numbered t type name place e =
+    let (i, below, is) = placeOf-number t type name place (sym (says-same (At place) (placeOf t type name) (sym e))) in
+    record { below = omega (arith, below, is, length-rowsOf t); is = omega (arith, is) }
+
+pub found-key : FoundKey
+found-key t type name place e =
+    let is = sym (says-same (At place) (placeOf t type name) (sym e)) in
+    let (row, within) = placeOf-row t type name (placed-head t type name place is) place is in
+    ap (λ (x : Row). length (x .rowKey)) (rowAt-within t place within)
+    ∙ length-part (partOf t place rowSize) rowKeyAt rowKeySize (omega (arith, length-part t place rowSize within))
+
+pub row-at-number : RowAtNumber
+row-at-number t i head below =
+    rowAt-within t (rowPlace i) (omega (arith, head-total t head)) ∙ sym (rowsOf-at t i below)
+
 pub finds-exactly : FindsExactly
 finds-exactly t type name row ok = (to, λ e. from (placeOf t type name) refl e)
   where
@@ -212,6 +233,9 @@ find-unique t type name = unique-by foundSays foundIn foundIn-says (foundAnswer 
 
 pub row-at-unique : RowAtUnique
 row-at-unique t at = unique (placedRow t at)
+
+pub name-at-unique : NameAtUnique
+name-at-unique t at = unique (placedName (placedRow t at))
 
 pub use-at-unique : UseAtUnique
 use-at-unique t at = unique (rowAt t at .rowUse)

@@ -223,6 +223,17 @@ module _ (type : ℕ) (name : List ℕ) where
       go true ih h = let here : at ≡ p = cc in (ap (λ (k : ℕ). some (rowIn (partOf s k rowSize))) here, omega arith)
       go false ih h = let (is, within) = ih h in (is, omega arith)
 
+  -- and it is that of a row by its number
+  place-number : (at p : ℕ) (xs : List Row) → placeFrom at type name xs ≡ At p → (i : ℕ) × (i < length xs) × (p ≡ at + rowSize * i)
+  unfolding placeFrom
+  place-number at p [] e = let z : _≡_ {A = ℕ} 0 1 = cc in absurd (omega arith)
+  place-number at p (x ∷ xs) e = go (matches type name x) (place-number (at + rowSize) p xs) e
+    where
+      go : (t : Bool) → (placeFrom (at + rowSize) type name xs ≡ At p → (i : ℕ) × (i < length xs) × (p ≡ at + rowSize + rowSize * i))
+          → when t (At at) (placeFrom (at + rowSize) type name xs) ≡ At p → (i : ℕ) × (i < length (x ∷ xs)) × (p ≡ at + rowSize * i)
+      go true ih h = let here : at ≡ p = cc in (0, omega arith, omega (arith, here))
+      go false ih h = let (i, below, is) = ih h in (suc i, omega (arith, below), omega (arith, is))
+
   place-none : (at : ℕ) (xs : List Row) → placeFrom at type name xs ≡ Nothing → lookup type name xs ≡ none
   unfolding placeFrom lookup
   place-none at [] e = refl
@@ -253,7 +264,7 @@ pub size-past : (t : List ℕ) (p : ℕ) → length t < p + rowSize → rowSizeA
 unfolding rowSizeAt
 size-past t p h = rw (lt-leb (p + rowSize) (length t) h)
 
-rowAt-within : (t : List ℕ) (p : ℕ) → p + rowSize ≤ length t → rowAt t p ≡ rowIn (partOf t p rowSize)
+pub rowAt-within : (t : List ℕ) (p : ℕ) → p + rowSize ≤ length t → rowAt t p ≡ rowIn (partOf t p rowSize)
 rowAt-within t p h = ap (λ (n : ℕ). rowIn (partOf t p n)) (size-within t p h)
 
 -- ---- placeOf
@@ -274,6 +285,18 @@ module _ (t : List ℕ) (type : ℕ) (name : List ℕ) where
       go : (head : Bool) → when head (placeFrom tableHeadSize type name (rowsOf t)) Broken ≡ Broken → head ≡ false
       go true h = absurd (place-whole type name tableHeadSize (rowsOf t) h)
       go false h = refl
+
+  -- a place is found in a table whose header keeps to the layout alone
+  pub placed-head : (p : ℕ) → placeOf t type name ≡ At p → headOk t ≡ true
+  unfolding placeOf
+  placed-head p e = go (headOk t) e
+    where
+      go : (head : Bool) → when head (placeFrom tableHeadSize type name (rowsOf t)) Broken ≡ At p → head ≡ true
+      go true h = refl
+      go false h = let z : _≡_ {A = ℕ} 0 1 = cc in absurd (omega arith)
+
+  pub placeOf-number : (p : ℕ) → placeOf t type name ≡ At p → (i : ℕ) × (i < length (rowsOf t)) × (p ≡ rowPlace i)
+  placeOf-number p e = place-number type name tableHeadSize p (rowsOf t) (sym (placeOf-looked (placed-head p e)) ∙ e)
 
   module _ (head : headOk t ≡ true) where
     pub placeOf-row : (p : ℕ) → placeOf t type name ≡ At p → (lookup type name (rowsOf t) ≡ some (rowAt t p)) × (p + rowSize ≤ length t)

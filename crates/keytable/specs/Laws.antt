@@ -10,8 +10,8 @@ use lib.ListN.{length}
 use Rattle.octets.specs.Lowest.{rises}
 use Rattle.octets.specs.Places.{Placed}
 use Rattle.octets.specs.Unique.{UniqueBy, Unique}
-use Rattle.keytable.specs.Row.{rowSize, rowKeySize, nameMax, useMax, kekUse, nameLength, isKekType, typeFits, placedKey, rowOk, Row, rowIn, matches}
-use Rattle.keytable.specs.Table.{rowCount, headOk, rowsOf, rowNumber, tableOk, distinct, holders, rowFor, dataRow, rowAt, placedRow}
+use Rattle.keytable.specs.Row.{rowSize, rowKeySize, nameMax, useMax, kekUse, nameLength, isKekType, typeFits, placedName, placedKey, rowOk, Row, rowIn, matches}
+use Rattle.keytable.specs.Table.{rowPlace, numberOfPlace, rowCount, headOk, rowsOf, rowNumber, tableOk, distinct, holders, rowFor, dataRow, rowAt, placedRow}
 use Rattle.keytable.specs.Calls.{checkTests, tableSays, tableAnswer, useTests, findUse}
 use Rattle.keytable.specs.Find.{foundSays, foundAnswer, rowFound}
 use Rattle.keytable.specs.declared.Found.{Found}
@@ -69,6 +69,25 @@ FindsExactly =
 
 abbrev pub ElseNothing : Type 0
 ElseNothing = (t : List ℕ) (type : ℕ) (name : List ℕ) → tableOk t ≡ true → (foundAnswer t type name ≡ (6, [])) ↔ (rowFor t type name ≡ none)
+
+-- the number of the row at a row's place is the row's
+abbrev pub NumberBack : Type 0
+NumberBack = (i : ℕ) → numberOfPlace (rowPlace i) ≡ i
+
+-- the place that is found is that of a row by its number, and a whole key stands in that row: these of any table
+pub record Numbered (t : List ℕ) (place : ℕ) : Type 0 where
+  pub below : numberOfPlace place < rowCount t
+  pub is : place ≡ rowPlace (numberOfPlace place)
+
+abbrev pub FoundNumbered : Type 0
+FoundNumbered = (t : List ℕ) (type : ℕ) (name : List ℕ) (place : ℕ) → foundAnswer t type name ≡ (0, place ∷ []) → Numbered t place
+
+abbrev pub FoundKey : Type 0
+FoundKey = (t : List ℕ) (type : ℕ) (name : List ℕ) (place : ℕ) → foundAnswer t type name ≡ (0, place ∷ []) → length (rowAt t place .rowKey) ≡ rowKeySize
+
+-- and the row at the place of a number is the row of that number
+abbrev pub RowAtNumber : Type 0
+RowAtNumber = (t : List ℕ) (i : ℕ) → headOk t ≡ true → i < rowCount t → rowAt t (rowPlace i) ≡ rowNumber (rowsOf t) i
 
 -- and 1 is said exactly of a table whose header breaks the layout
 abbrev pub FindsBroken : Type 0
@@ -159,6 +178,9 @@ FindUnique = (t : List ℕ) (type : ℕ) (name : List ℕ) → UniqueBy foundSay
 
 abbrev pub RowAtUnique : Type 0
 RowAtUnique = (t : Placed) (at : ℕ) → Unique (placedRow t at)
+
+abbrev pub NameAtUnique : Type 0
+NameAtUnique = (t : Placed) (at : ℕ) → Unique (placedName (placedRow t at))
 
 abbrev pub UseAtUnique : Type 0
 UseAtUnique = (t : List ℕ) (at : ℕ) → Unique (rowAt t at .rowUse)

@@ -50,7 +50,10 @@ nameOf s = partOf s rowNameAt (nameLength s)
 abbrev pub keyOf : List ℕ → List ℕ
 keyOf s = partOf s rowKeyAt rowKeySize
 
--- as the part of the row that it is
+-- each as the part of the row that it is
+abbrev pub placedName : Placed → Placed
+placedName s = partIn s rowNameAt (nameLength (s .bytes))
+
 abbrev pub placedKey : Placed → Placed
 placedKey s = partIn s rowKeyAt rowKeySize
 

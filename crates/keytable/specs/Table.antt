@@ -1,6 +1,6 @@
 -- The key table (document 01, "Key table"; document 02, No. 2): its header, its rows, and the row of a type and a name.
 -- Assumes nothing.
-use Prim.Native.Nat.{ℕ, zero, suc, _+_, _*_}
+use Prim.Native.Nat.{ℕ, zero, suc, _+_, _-_, _*_, _/_}
 use mathlib.Core.Bool.{Bool, true, _&&_, not}
 use mathlib.Core.List.{List, [], _∷_, map}
 use mathlib.Core.Option.{Option, some, none}
@@ -29,6 +29,10 @@ rowCount t = numberAt 2 t 2
 -- the place of row number i, from 0
 abbrev pub rowPlace : ℕ → ℕ
 rowPlace i = tableHeadSize + rowSize * i
+
+-- and the number of the row at a place
+abbrev pub numberOfPlace : ℕ → ℕ
+numberOfPlace at = (at - tableHeadSize) / rowSize
 
 abbrev pub headTests : List ℕ → List Bool
 headTests t =

@@ -17,23 +17,27 @@ use sizes::KEK_BY_SAI;
 use sizes::KEK_BY_VALUE;
 use sizes::KEY_AT;
 use sizes::KEY_SIZE;
+use sizes::NAME_AT;
+use sizes::NAME_LENGTH_AT;
 use sizes::NAME_MAX;
 use sizes::ROW_COUNT_AT;
 use sizes::ROW_LENGTH_AT;
-use sizes::ROW_MAX;
 use sizes::ROW_SIZE;
 use sizes::TABLE_FORMAT;
 use sizes::TYPE_MAX;
 use sizes::USE_AT;
 ghost use mathlib.Core.Path.{_≡_};
 ghost use Rattle.octets.specs.Places.{placed};
-ghost use Rattle.keytable.specs.Row.{isKekType, placedKey};
-ghost use Rattle.keytable.specs.Table.{headOk, rowSizeAt, rowAt, placedRow};
+ghost use Rattle.keytable.specs.Row.{isKekType, placedName, placedKey};
+ghost use Rattle.keytable.specs.Table.{rowPlace, numberOfPlace, headOk, rowSizeAt, rowAt, placedRow};
 ghost use Rattle.keytable.specs.Calls.{tableSays, tableAnswer, findUse};
 ghost use Rattle.keytable.specs.Find.{foundSays, foundAnswer};
 
 // The type of a row that is no key-encrypting key's: records and references look for it.
 pub const DATA_TYPE: usize = 0x0000;
+
+// The most rows that a table may have.
+pub const ROW_MAX: usize = 64;
 
 // What checking a table finds: the number of its rows.
 pub enum Table {
@@ -96,6 +100,22 @@ pub fn find(t: &[u8], kind: usize, name: &[u8]) -> Found
     find_from(t, read16(t, ROW_COUNT_AT), 0, kind, name)
 }
 
+// The place of row number i, from 0, and the number of the row at a place.
+pub fn place_of(i: u16) -> usize
+    ensures { λ at. ⌜ at ≡ rowPlace i ⌝ }
+{
+    HEAD_SIZE + ROW_SIZE * (i as usize)
+}
+
+pub fn number_at(at: usize) -> usize
+    ensures { λ i. ⌜ i ≡ numberOfPlace at ⌝ }
+{
+    if at < HEAD_SIZE {
+        return 0;
+    }
+    (at - HEAD_SIZE) / ROW_SIZE
+}
+
 // How long the row at a place is: a row's size, or none where it does not lie in the table.
 fn row_size_at(t: &[u8], at: usize) -> usize
     ensures { λ n. ⌜ n ≡ rowSizeAt (now (t .entry)) at ⌝ }
@@ -116,7 +136,14 @@ pub fn row_at(t: &[u8], at: usize) -> &[u8]
     part_in(t, at, row_size_at(t, at))
 }
 
-// The use and the key of the row at a place; 0 and none where no row lies there.
+// The name, the use and the key of the row at a place; none, 0 and none where no row lies there.
+pub fn name_at(t: &[u8], at: usize) -> &[u8]
+    ensures { λ n. ⌜ placed n ≡ placedName (placedRow (placed (t .entry)) at) ⌝ }
+{
+    let row = row_at(t, at);
+    part_in(row, NAME_AT, read8(row, NAME_LENGTH_AT))
+}
+
 pub fn use_at(t: &[u8], at: usize) -> u8
     ensures { λ u. ⌜ u ≡ rowAt (now (t .entry)) at .rowUse ⌝ }
 {

@@ -5,8 +5,6 @@ pub(crate) const TABLE_FORMAT: usize = 1;
 
 pub(crate) const ROW_COUNT_AT: usize = 2;
 
-pub(crate) const ROW_MAX: usize = 64;
-
 pub(crate) const FIRST_ROW_AT: usize = 4;
 
 pub(crate) const HEAD_SIZE: usize = 8;

@@ -6,6 +6,7 @@ use mathlib.Core.Logic.{_↔_}
 use mathlib.Core.List.{List, _++_}
 use Prim.Native.Nat.{ℕ, _+_}
 use native.Mathlib.Omega.{arith}
+use borrow.Author.Tests.{le-ltb}
 use lib.ListN.{length, take, drop, length-append}
 use lib.Seq.{take-at, drop-at}
 use Rattle.octets.specs.Bytes.{Bytes}
@@ -15,8 +16,8 @@ use Rattle.octets.proofs.Same.{same-equal, same-refl}
 use Rattle.octets.proofs.Lent.{over-injective, one-answer}
 use Rattle.octets.proofs.Unique.{unique}
 use Rattle.modes.specs.Mode.{Mode}
-use Rattle.modes.specs.Calls.{authenticTests, encryptAnswer, decryptAnswer}
-use Rattle.modes.specs.Laws.{Keyed, EncryptsTo, DecryptInRange, DecryptsTo, DecryptsExactly, AtMostOnePlaintext, DecryptElseNine, SealedLength, EncryptsInRange, Lawful}
+use Rattle.modes.specs.Calls.{authenticTests, encryptAnswer, decryptNumber, decryptAnswer, verifyNumber}
+use Rattle.modes.specs.Laws.{Keyed, EncryptsTo, DecryptInRange, DecryptsTo, DecryptsExactly, AtMostOnePlaintext, DecryptElseNine, SealedLength, EncryptsInRange, VerifyAsDecrypting, Lawful}
 use Rattle.modes.proofs.Numbers.{wrongSizes-right, arguments-pass, encrypt-done, opened-wrong, opened-right, decrypt-in-range}
 
 -- how a mode's two directions fit: for every key and IV, and every text of a length that it permits, the plaintext undoes the ciphertext and back,
@@ -139,6 +140,10 @@ module _ (m : Mode) (fit : Fitting m) where
       encrypt-done m key iv a b p out
       (sym (arguments-pass _ a b p (length p + m .tagSize) (length out) (wrongSizes-right m key iv p key-size iv-size permitted) data-fits text-fits room)) refl
 
+  verify-as-decrypting : VerifyAsDecrypting m
+  unfolding decryptAnswer decryptNumber
+  verify-as-decrypting key iv a b c t out room = rw (le-ltb (length out) (length c) room, le-ltb (length c) (length c) (omega arith))
+
   pub fitting-lawful : Lawful m
   fitting-lawful =
       record {
@@ -147,8 +152,10 @@ module _ (m : Mode) (fit : Fitting m) where
         else-nine = else-nine;
         sealed-length = sealed-length;
         encrypts-in-range = encrypts-in-range;
+        verify-as-decrypting = verify-as-decrypting;
         encrypt-unique = λ key iv a b p out. unique (encryptAnswer m key iv a b p out);
         decrypt-unique = λ key iv a b c t out. unique (decryptAnswer m key iv a b c t out);
+        verify-unique = λ key iv a b c t. unique (verifyNumber m key iv a b c t);
         encrypt-tests-rise = λ key iv a b p room. refl;
         decrypt-tests-rise = λ key iv a b c t room. refl;
       }

@@ -17,7 +17,7 @@ use Rattle.modes.specs.Mode.{Mode, sealed}
 use Rattle.modes.specs.Ccm as c
 use Rattle.modes.specs.Gcm as g
 use Rattle.modes.specs.Modes.{modeOf}
-use Rattle.modes.specs.Calls.{Sealable, Openable, wrongSizes, argumentTests, authenticTests, encryptTests}
+use Rattle.modes.specs.Calls.{Sealable, Openable, wrongSizes, wrongOpening, argumentTests, authenticTests, tagDecides, encryptTests}
 use Rattle.modes.proofs.Numbers.{arguments-passed}
 
 pub each-mode : (Holds : Mode → Type 0) → Holds g.gcm → Holds c.ccm → (u : ℕ) → Holds (modeOf u)
@@ -58,15 +58,22 @@ module _ (u : ℕ) where
         let passed = arguments-passed (wrongSizes (modeOf u) key iv s) a b s (length s + modeOf u .tagSize) room none in
         (named-key key iv s (passed .sizes), named-iv key iv s (passed .sizes), passed .data-fits, passed .text-fits, rw (named-tagSize) (passed .room-fits))
 
-    pub decrypt-passed : (t : List ℕ) → lowest (argumentTests (wrongSizes (modeOf u) key iv s || isNot (modeOf u .tagSize) t) a b s (length s) room) ≡ 0
+    pub decrypt-passed : (t : List ℕ) → lowest (argumentTests (wrongOpening (modeOf u) key iv s t) a b s (length s) room) ≡ 0
         → Openable key iv a b s t room
     decrypt-passed t none =
-        let passed = arguments-passed (wrongSizes (modeOf u) key iv s || isNot (modeOf u .tagSize) t) a b s (length s) room none in
+        let passed = arguments-passed (wrongOpening (modeOf u) key iv s t) a b s (length s) room none in
         let sizes = or-left (wrongSizes (modeOf u) key iv s) (isNot (modeOf u .tagSize) t) (passed .sizes) in
         let tag = or-right (wrongSizes (modeOf u) key iv s) (isNot (modeOf u .tagSize) t) (passed .sizes) in
-        (named-key key iv s sizes, named-iv key iv s sizes, passed .data-fits, passed .text-fits, isNot-false (modeOf u .tagSize) t tag ∙ sym named-tagSize, passed .room-fits)
+        ((named-key key iv s sizes, named-iv key iv s sizes, passed .data-fits, passed .text-fits, isNot-false (modeOf u .tagSize) t tag ∙ sym named-tagSize), passed .room-fits)
 
   -- ---- calls, with the round keys of a copy k of the key
+
+  module _ {ks : List State} {k : List ℕ} (key iv a s t : List ℕ) (made : ks ≡ schedule k) (copied : k ≡ key) where
+    pub gcm-verified : {n : ℕ} → u ≡ 2 → n ≡ tagDecides (g.gcmTagRight (cipher ks) iv a s t) → n ≡ tagDecides (modeOf u .authentic key iv a s t)
+    gcm-verified e h = rw (eq-eqb u 2 e) (rw (made ∙ ap schedule copied) at h)
+
+    pub ccm-verified : {n : ℕ} → (u ≡ 2 → ⊥) → n ≡ tagDecides (c.ccmTagRight (cipher ks) iv a s t) → n ≡ tagDecides (modeOf u .authentic key iv a s t)
+    ccm-verified e h = rw (ne-eqb u 2 e) (rw (made ∙ ap schedule copied) at h)
 
   module _ {ks : List State} {k : List ℕ} (key iv a s out : List ℕ) (made : ks ≡ schedule k) (copied : k ≡ key) where
     keys : ks ≡ schedule key

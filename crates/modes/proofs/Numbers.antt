@@ -13,7 +13,8 @@ use Rattle.octets.proofs.Tests.{or-left, or-right}
 use Rattle.octets.proofs.Lent.{isNot-right, answer-refused, none-applies}
 use Rattle.octets.proofs.Lowest.{lowest-refused, lowest-passed}
 use Rattle.modes.specs.Mode.{Mode, sealed}
-use Rattle.modes.specs.Calls.{dataMax, textMax, wrongSizes, tooLong, argumentTests, authenticTests, encryptTests, encryptNumber, encryptAnswer, decryptNumber, decryptAnswer}
+use Rattle.modes.specs.Calls.{dataMax, textMax, wrongSizes, wrongOpening, tooLong, argumentTests, authenticTests, tagDecides}
+use Rattle.modes.specs.Calls.{encryptTests, encryptNumber, encryptAnswer, decryptNumber, decryptAnswer, verifyNumber}
 
 -- ---- a number that is handed on with the output after it
 
@@ -70,13 +71,14 @@ module _ (m : Mode) (key iv a b p out : List ℕ) where
 
 -- ---- decryption
 
+-- the number as the code finds it
+pub decrypt-tested : (a b c : List ℕ) (room : ℕ) {wrong right : Bool} {n : ℕ} → wrong ≡ right → n ≡ lowest (argumentTests wrong a b c (length c + 0) room)
+    → n ≡ lowest (argumentTests right a b c (length c) room)
+decrypt-tested a b c room ew e = e ∙ ap₂ (λ (w : Bool) (k : ℕ). lowest (argumentTests w a b c k room)) ew (add-zero (length c))
+
 module _ (m : Mode) (key iv a b c t out : List ℕ) where
   abbrev wrong-any : Bool
-  wrong-any = wrongSizes m key iv c || isNot (m .tagSize) t
-
-  pub decrypt-tested : {wrong : Bool} {n : ℕ} → wrong ≡ wrong-any
-      → n ≡ lowest (argumentTests wrong a b c (length c + 0) (length out)) → n ≡ lowest (argumentTests wrong-any a b c (length c) (length out))
-  decrypt-tested ew e = e ∙ ap₂ (λ (w : Bool) (k : ℕ). lowest (argumentTests w a b c k (length out))) ew (add-zero (length c))
+  wrong-any = wrongOpening m key iv c t
 
   module _ {n : ℕ} (tested : n ≡ lowest (argumentTests wrong-any a b c (length c) (length out))) where
     pub decrypt-refused : (n ≡ 0 → ⊥) → decryptAnswer m key iv a b c t out ≡ (n, out)
@@ -91,6 +93,18 @@ module _ (m : Mode) (key iv a b c t out : List ℕ) where
     decrypt-done none =
         ap (λ (k : ℕ). answer k (m .plaintext key iv c) out)
         (lowest-passed (argumentTests wrong-any a b c (length c) (length out)) (authenticTests (m .authentic key iv (a ++ b) c t)) refl (sym tested ∙ none))
+
+  -- into room as long as the ciphertext, the number by itself
+  module _ {n : ℕ} (tested : n ≡ lowest (argumentTests wrong-any a b c (length c) (length c))) where
+    pub verify-refused : (n ≡ 0 → ⊥) → n ≡ verifyNumber m key iv a b c t
+    unfolding decryptNumber
+    verify-refused some =
+        tested ∙ sym (lowest-refused (argumentTests wrong-any a b c (length c) (length c)) (authenticTests (m .authentic key iv (a ++ b) c t)) refl (λ z. some (tested ∙ z)))
+
+    pub verify-done : {x : ℕ} → n ≡ 0 → x ≡ tagDecides (m .authentic key iv (a ++ b) c t) → x ≡ verifyNumber m key iv a b c t
+    unfolding decryptNumber
+    verify-done none is =
+        is ∙ sym (lowest-passed (argumentTests wrong-any a b c (length c) (length c)) (authenticTests (m .authentic key iv (a ++ b) c t)) refl (sym tested ∙ none))
 
   -- in range
   pub decrypt-in-range : length key ≡ m .keySize → length iv ≡ m .ivSize → m .permits (length c) ≡ true → length t ≡ m .tagSize

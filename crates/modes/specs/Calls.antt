@@ -19,6 +19,10 @@ textMax = 1048576
 abbrev pub wrongSizes : Mode → List ℕ → List ℕ → List ℕ → Bool
 wrongSizes m key iv s = not (m .permits (length s)) || isNot (m .keySize) key || isNot (m .ivSize) iv
 
+-- the same where the tag t is lent
+abbrev pub wrongOpening : Mode → List ℕ → List ℕ → List ℕ → List ℕ → Bool
+wrongOpening m key iv c t = wrongSizes m key iv c || isNot (m .tagSize) t
+
 -- a maximum is passed
 abbrev pub tooLong : List ℕ → List ℕ → List ℕ → Bool
 tooLong a b s = ltb dataMax (length a + length b) || ltb textMax (length s)
@@ -32,16 +36,21 @@ abbrev pub authenticTests : Bool → Tests
 authenticTests right = (9, not right) ∷ []
 
 -- the number that the tag alone decides, and the output after it: s where it is authentic
+abbrev pub tagDecides : Bool → ℕ
+tagDecides right = lowest (authenticTests right)
+
 abbrev pub openedAnswer : Bool → List ℕ → List ℕ → ℕ × List ℕ
-openedAnswer right s out = answer (lowest (authenticTests right)) s out
+openedAnswer right s out = answer (tagDecides right) s out
 
 -- lengths that pass the tests of the arguments, in each direction: a key of 32 bytes, an IV of 12 and a tag of 16, the maxima, and room
 abbrev pub Sealable : List ℕ → List ℕ → List ℕ → List ℕ → List ℕ → ℕ → Type 0
 Sealable key iv a b p room = (length key ≡ 32) × (length iv ≡ 12) × (length a + length b ≤ dataMax) × (length p ≤ textMax) × (length p + 16 ≤ room)
 
+abbrev pub Verifiable : List ℕ → List ℕ → List ℕ → List ℕ → List ℕ → List ℕ → Type 0
+Verifiable key iv a b c t = (length key ≡ 32) × (length iv ≡ 12) × (length a + length b ≤ dataMax) × (length c ≤ textMax) × (length t ≡ 16)
+
 abbrev pub Openable : List ℕ → List ℕ → List ℕ → List ℕ → List ℕ → List ℕ → ℕ → Type 0
-Openable key iv a b c t room =
-    (length key ≡ 32) × (length iv ≡ 12) × (length a + length b ≤ dataMax) × (length c ≤ textMax) × (length t ≡ 16) × (length c ≤ room)
+Openable key iv a b c t room = Verifiable key iv a b c t × (length c ≤ room)
 
 -- ---- encryption
 
@@ -56,10 +65,13 @@ encryptAnswer m key iv a b p out = answer (encryptNumber m key iv a b p (length 
 
 -- ---- decryption
 
+-- the number that decryption's arguments alone give
+abbrev pub openingNumber : Mode → List ℕ → List ℕ → List ℕ → List ℕ → List ℕ → List ℕ → ℕ → ℕ
+openingNumber m key iv a b c t room = lowest (argumentTests (wrongOpening m key iv c t) a b c (length c) room)
+
 abbrev pub decryptTests : Mode → List ℕ → List ℕ → List ℕ → List ℕ → List ℕ → List ℕ → ℕ → Tests
 decryptTests m key iv a b c t room =
-    argumentTests (wrongSizes m key iv c || isNot (m .tagSize) t) a b c (length c) room
-    ++ authenticTests (m .authentic key iv (a ++ b) c t)
+    argumentTests (wrongOpening m key iv c t) a b c (length c) room ++ authenticTests (m .authentic key iv (a ++ b) c t)
 
 -- what the tag decides, once the tests of the arguments are passed
 abbrev pub decryptOpened : Mode → List ℕ → List ℕ → List ℕ → List ℕ → List ℕ → List ℕ → ℕ × List ℕ
@@ -70,3 +82,7 @@ decryptNumber m key iv a b c t room = lowest (decryptTests m key iv a b c t room
 
 unfoldable pub decryptAnswer : Mode → List ℕ → List ℕ → List ℕ → List ℕ → List ℕ → List ℕ → List ℕ → ℕ × List ℕ
 decryptAnswer m key iv a b c t out = answer (decryptNumber m key iv a b c t (length out)) (m .plaintext key iv c) out
+
+-- the number where there is room for the plaintext, and nothing is written
+abbrev pub verifyNumber : Mode → List ℕ → List ℕ → List ℕ → List ℕ → List ℕ → List ℕ → ℕ
+verifyNumber m key iv a b c t = decryptNumber m key iv a b c t (length c)

@@ -13,7 +13,7 @@ use Rattle.octets.specs.Unique.{Unique}
 use Rattle.modes.specs.Mode.{Mode, sealed}
 use Rattle.modes.specs.Modes.{modeOf}
 use Rattle.modes.specs.Counter.{ctr, counterTests}
-use Rattle.modes.specs.Calls.{dataMax, textMax, argumentTests, authenticTests, encryptTests, encryptAnswer, decryptTests, decryptAnswer}
+use Rattle.modes.specs.Calls.{dataMax, textMax, argumentTests, authenticTests, encryptTests, encryptAnswer, decryptTests, decryptAnswer, verifyNumber}
 
 -- counter mode twice gives the string back, whatever the cipher, where each of its blocks has 16 bytes
 abbrev pub CounterTwice : Type 0
@@ -85,12 +85,20 @@ module _ (m : Mode) where
       → length a + length b ≤ dataMax → length p ≤ textMax → length p + m .tagSize ≤ length out
       → encryptAnswer m key iv a b p out ≡ (0, over (sealed m key iv (a ++ b) p) out)
 
+  -- verification gives the number that decryption gives into any output with room for the plaintext
+  abbrev pub VerifyAsDecrypting : Type 0
+  VerifyAsDecrypting =
+      (key iv a b c t out : List ℕ) → length c ≤ length out → verifyNumber m key iv a b c t ≡ decryptAnswer m key iv a b c t out .0
+
   -- for each input one number and one state of the output
   abbrev pub EncryptUnique : Type 0
   EncryptUnique = (key iv a b p out : List ℕ) → Unique (encryptAnswer m key iv a b p out)
 
   abbrev pub DecryptUnique : Type 0
   DecryptUnique = (key iv a b c t out : List ℕ) → Unique (decryptAnswer m key iv a b c t out)
+
+  abbrev pub VerifyUnique : Type 0
+  VerifyUnique = (key iv a b c t : List ℕ) → Unique (verifyNumber m key iv a b c t)
 
   abbrev pub EncryptTestsRise : Type 0
   EncryptTestsRise = (key iv a b p : List ℕ) (room : ℕ) → rises (encryptTests m key iv a b p room) ≡ true
@@ -105,8 +113,10 @@ pub record Lawful (m : Mode) : Type 0 where
   pub else-nine : DecryptElseNine m
   pub sealed-length : SealedLength m
   pub encrypts-in-range : EncryptsInRange m
+  pub verify-as-decrypting : VerifyAsDecrypting m
   pub encrypt-unique : EncryptUnique m
   pub decrypt-unique : DecryptUnique m
+  pub verify-unique : VerifyUnique m
   pub encrypt-tests-rise : EncryptTestsRise m
   pub decrypt-tests-rise : DecryptTestsRise m
 

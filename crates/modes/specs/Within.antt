@@ -13,7 +13,10 @@ use Rattle.modes.specs.Calls.{dataMax, textMax}
 abbrev pub SealsWith : Tables → List State → List ℕ → List ℕ → List ℕ → List ℕ → ℕ → Type 0
 SealsWith t ks iv a b p room = Ready t ks × (length iv ≡ 12) × (length a + length b ≤ dataMax) × (length p ≤ textMax) × (length p + 16 ≤ room)
 
--- the same IV, a tag of 16 bytes, and room for the text
+-- the same IV, and a tag of 16 bytes
+abbrev pub VerifiesWith : Tables → List State → List ℕ → List ℕ → List ℕ → List ℕ → List ℕ → Type 0
+VerifiesWith t ks iv a b c tag = Ready t ks × (length iv ≡ 12) × (length a + length b ≤ dataMax) × (length c ≤ textMax) × (length tag ≡ 16)
+
+-- the same, and room for the text
 abbrev pub OpensWith : Tables → List State → List ℕ → List ℕ → List ℕ → List ℕ → List ℕ → ℕ → Type 0
-OpensWith t ks iv a b c tag room =
-    Ready t ks × (length iv ≡ 12) × (length a + length b ≤ dataMax) × (length c ≤ textMax) × (length tag ≡ 16) × (length c ≤ room)
+OpensWith t ks iv a b c tag room = VerifiesWith t ks iv a b c tag × (length c ≤ room)

@@ -3,13 +3,14 @@ use crate::iv_size;
 use crate::sizes::DATA_MAX;
 use crate::sizes::KEY_SIZE;
 use crate::sizes::TEXT_MAX;
+use crate::tag_size;
 ghost use mathlib.Core.Path.{_≡_};
 ghost use mathlib.Core.List.{List};
 ghost use Prim.Native.Nat.{ℕ, _+_, _≤_};
 ghost use lib.ListN.{length};
 ghost use Rattle.octets.specs.Lent.{lowest};
 ghost use Rattle.modes.specs.Modes.{modeOf};
-ghost use Rattle.modes.specs.Calls.{wrongSizes, tooLong, argumentTests};
+ghost use Rattle.modes.specs.Calls.{wrongSizes, tooLong, argumentTests, openingNumber};
 
 // Whether the key or the IV has a length that is none of the mode's. Both modes permit a text of every length.
 pub(crate) fn wrong_sizes(u: u8, key: &[u8], iv: &[u8]) -> bool
@@ -53,4 +54,21 @@ pub(crate) fn argument_number(
         return 5;
     }
     0
+}
+
+// The same for decryption, whose tag has a length too and whose result is as long as the ciphertext.
+pub(crate) fn decrypt_number(
+    u: u8,
+    key: &[u8],
+    iv: &[u8],
+    a: &[u8],
+    b: &[u8],
+    c: &[u8],
+    tag: &[u8],
+    room: usize,
+) -> u8
+    ensures { λ r. ⌜ r ≡ openingNumber (modeOf u) (now (key .entry)) (now (iv .entry)) (now (a .entry)) (now (b .entry)) (now (c .entry)) (now (tag .entry)) room ⌝ }
+{
+    let wrong = wrong_sizes(u, key, iv) | (tag.len() != tag_size(u));
+    argument_number(wrong, a, b, c, 0, room)
 }

@@ -24,10 +24,10 @@ ghost use Rattle.octets.specs.Lent.{answer};
 ghost use Rattle.octets.specs.Xor.{xors};
 ghost use Rattle.aes.specs.Cipher.{cipher};
 ghost use Rattle.aes_fast.specs.Right.{Ready};
-ghost use Rattle.modes.specs.Calls.{dataMax};
-ghost use Rattle.modes.specs.Within.{SealsWith, OpensWith};
+ghost use Rattle.modes.specs.Calls.{dataMax, tagDecides};
+ghost use Rattle.modes.specs.Within.{SealsWith, VerifiesWith, OpensWith};
 ghost use Rattle.modes.specs.Counter.{counterBlock, frontOf};
-ghost use Rattle.modes.specs.Ccm.{flags, dataBlocks, chainStart, counterFront, ccmSealed, ccmOpened};
+ghost use Rattle.modes.specs.Ccm.{flags, dataBlocks, chainStart, counterFront, ccmTagRight, ccmSealed, ccmOpened};
 
 // The flags of the first block: 7Ah with associated data, 3Ah without.
 fn flags_of(with_data: bool) -> u8
@@ -112,7 +112,27 @@ pub(crate) fn seal(
     0
 }
 
-// 9, or 0 with the plaintext. The chain is lent no output: a plaintext that is not authentic has nowhere to go.
+// 9, or 0 where the tag is right. The chain is lent no output: a plaintext that is not authentic has nowhere to go.
+pub(crate) fn verify(
+    t: &Tables,
+    ks: &RoundKeys,
+    iv: &[u8],
+    a: &[u8],
+    b: &[u8],
+    c: &[u8],
+    tag: &[u8],
+) -> u8
+    requires { ⌜ VerifiesWith (now t) (now ks) (now iv) (now a) (now b) (now c) (now tag) ⌝ }
+    ensures { λ r. ⌜ r ≡ tagDecides (ccmTagRight (cipher (now (ks .entry))) (now (iv .entry)) (now (a .entry) ++ now (b .entry)) (now (c .entry)) (now (tag .entry))) ⌝ }
+{
+    let base = base_of(iv);
+    let y = chain_start(t, ks, base, a, b, c.len());
+    let z = chain_opened(t, ks, base, y, c);
+    let right = tag_from(t, ks, base, z);
+    tag_number(tag, &right)
+}
+
+// 9, or 0 with the plaintext.
 pub(crate) fn open(
     t: &Tables,
     ks: &RoundKeys,
@@ -126,13 +146,9 @@ pub(crate) fn open(
     requires { ⌜ OpensWith (now t) (now ks) (now iv) (now a) (now b) (now c) (now tag) (length (now out)) ⌝ }
     ensures { λ r. ⌜ ccmOpened (cipher (now (ks .entry))) (now (iv .entry)) (now (a .entry) ++ now (b .entry)) (now (c .entry)) (now (tag .entry)) (now (out .entry)) ≡ (r, now (out .exit)) ⌝ }
 {
-    let base = base_of(iv);
-    let y = chain_start(t, ks, base, a, b, c.len());
-    let z = chain_opened(t, ks, base, y, c);
-    let right = tag_from(t, ks, base, z);
-    let number = tag_number(tag, &right);
+    let number = verify(t, ks, iv, a, b, c, tag);
     if 0 < number {
         return number;
     }
-    counter(t, ks, base, false, 1, c, out)
+    counter(t, ks, base_of(iv), false, 1, c, out)
 }

@@ -19,10 +19,10 @@ ghost use Rattle.octets.specs.BigEndian.{be};
 ghost use Rattle.octets.specs.Lent.{answer};
 ghost use Rattle.aes.specs.Cipher.{cipher};
 ghost use Rattle.aes_fast.specs.Right.{Ready};
-ghost use Rattle.modes.specs.Calls.{dataMax, textMax};
-ghost use Rattle.modes.specs.Within.{SealsWith, OpensWith};
+ghost use Rattle.modes.specs.Calls.{dataMax, textMax, tagDecides};
+ghost use Rattle.modes.specs.Within.{SealsWith, VerifiesWith, OpensWith};
 ghost use Rattle.modes.specs.Counter.{frontOf};
-ghost use Rattle.modes.specs.Gcm.{gcmTag, gcmSealed, gcmOpened};
+ghost use Rattle.modes.specs.Gcm.{gcmTag, gcmTagRight, gcmSealed, gcmOpened};
 
 // The counter blocks' front, with a field of zeros.
 fn base_of(iv: &[u8]) -> Block
@@ -76,6 +76,23 @@ pub(crate) fn seal(
     number
 }
 
+// 9, or 0 where the tag is right.
+pub(crate) fn verify(
+    t: &Tables,
+    ks: &RoundKeys,
+    iv: &[u8],
+    a: &[u8],
+    b: &[u8],
+    c: &[u8],
+    tag: &[u8],
+) -> u8
+    requires { ⌜ VerifiesWith (now t) (now ks) (now iv) (now a) (now b) (now c) (now tag) ⌝ }
+    ensures { λ r. ⌜ r ≡ tagDecides (gcmTagRight (cipher (now (ks .entry))) (now (iv .entry)) (now (a .entry) ++ now (b .entry)) (now (c .entry)) (now (tag .entry))) ⌝ }
+{
+    let right = tag_of(t, ks, base_of(iv), a, b, c);
+    tag_number(tag, &right)
+}
+
 // 9, or 0 with the plaintext. The output is lent on only after the tag was found right.
 pub(crate) fn open(
     t: &Tables,
@@ -90,11 +107,9 @@ pub(crate) fn open(
     requires { ⌜ OpensWith (now t) (now ks) (now iv) (now a) (now b) (now c) (now tag) (length (now out)) ⌝ }
     ensures { λ r. ⌜ gcmOpened (cipher (now (ks .entry))) (now (iv .entry)) (now (a .entry) ++ now (b .entry)) (now (c .entry)) (now (tag .entry)) (now (out .entry)) ≡ (r, now (out .exit)) ⌝ }
 {
-    let base = base_of(iv);
-    let right = tag_of(t, ks, base, a, b, c);
-    let number = tag_number(tag, &right);
+    let number = verify(t, ks, iv, a, b, c, tag);
     if 0 < number {
         return number;
     }
-    counter(t, ks, base, true, 2, c, out)
+    counter(t, ks, base_of(iv), true, 2, c, out)
 }

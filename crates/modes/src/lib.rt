@@ -10,6 +10,7 @@ mod tag;
 use aes::expand_key;
 use aes_fast::round_tables;
 use arguments::argument_number;
+use arguments::decrypt_number;
 use arguments::wrong_sizes;
 use octets::strings::first32;
 use sizes::CCM;
@@ -22,7 +23,7 @@ ghost use lib.ListN.{length};
 ghost use Rattle.octets.specs.Lent.{answer};
 ghost use Rattle.modes.specs.Mode.{sealed};
 ghost use Rattle.modes.specs.Modes.{namesMode, modeOf};
-ghost use Rattle.modes.specs.Calls.{Sealable, Openable, encryptAnswer, decryptOpened, decryptAnswer};
+ghost use Rattle.modes.specs.Calls.{Sealable, Verifiable, Openable, tagDecides, encryptAnswer, decryptOpened, decryptAnswer, verifyNumber};
 
 // Whether the byte names a mode: 1 CCM, 2 GCM.
 pub fn names_mode(u: u8) -> bool
@@ -55,6 +56,18 @@ fn seal(u: u8, key: &[u8], iv: &[u8], a: &[u8], b: &[u8], plain: &[u8], out: &mu
         return gcm::seal(&t, &ks, iv, a, b, plain, out);
     }
     ccm::seal(&t, &ks, iv, a, b, plain, out)
+}
+
+fn check_tag(u: u8, key: &[u8], iv: &[u8], a: &[u8], b: &[u8], c: &[u8], tag: &[u8]) -> u8
+    requires { ⌜ Verifiable (now key) (now iv) (now a) (now b) (now c) (now tag) ⌝ }
+    ensures { λ r. ⌜ r ≡ tagDecides (modeOf u .authentic (now (key .entry)) (now (iv .entry)) (now (a .entry) ++ now (b .entry)) (now (c .entry)) (now (tag .entry))) ⌝ }
+{
+    let t = round_tables();
+    let ks = expand_key(first32(key));
+    if u == GCM {
+        return gcm::verify(&t, &ks, iv, a, b, c, tag);
+    }
+    ccm::verify(&t, &ks, iv, a, b, c, tag)
 }
 
 fn open(
@@ -101,10 +114,20 @@ pub fn decrypt(
 ) -> u8
     ensures { λ r. ⌜ decryptAnswer (modeOf u) (now (key .entry)) (now (iv .entry)) (now (a .entry)) (now (b .entry)) (now (c .entry)) (now (tag .entry)) (now (out .entry)) ≡ (r, now (out .exit)) ⌝ }
 {
-    let wrong = wrong_sizes(u, key, iv) | (tag.len() != tag_size(u));
-    let number = argument_number(wrong, a, b, c, 0, out.len());
+    let number = decrypt_number(u, key, iv, a, b, c, tag, out.len());
     if number != 0 {
         return number;
     }
     open(u, key, iv, a, b, c, tag, out)
+}
+
+// The number that decryption gives where there is room for the plaintext; nothing is written.
+pub fn verify(u: u8, key: &[u8], iv: &[u8], a: &[u8], b: &[u8], c: &[u8], tag: &[u8]) -> u8
+    ensures { λ r. ⌜ r ≡ verifyNumber (modeOf u) (now (key .entry)) (now (iv .entry)) (now (a .entry)) (now (b .entry)) (now (c .entry)) (now (tag .entry)) ⌝ }
+{
+    let number = decrypt_number(u, key, iv, a, b, c, tag, c.len());
+    if number != 0 {
+        return number;
+    }
+    check_tag(u, key, iv, a, b, c, tag)
 }

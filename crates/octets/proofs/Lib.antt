@@ -9,6 +9,7 @@ pub mod Unique
 pub mod Blocks
 pub mod Running
 pub mod Tests
+pub mod Split
 pub mod Arrays
 pub mod Places
 pub mod Written

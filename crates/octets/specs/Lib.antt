@@ -9,4 +9,5 @@ pub mod Unique
 pub mod Blocks
 pub mod Running
 pub mod Tests
+pub mod Split
 pub mod Places

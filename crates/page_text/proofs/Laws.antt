@@ -10,6 +10,7 @@ use Rattle.octets.proofs.Lent.{length-over}
 use Rattle.octets.proofs.Unique.{unique-by}
 use Rattle.wording.specs.Decimal.{digitsWithin, decimal}
 use Rattle.descriptors.specs.Descriptor.{sizeSaid, sizeOf}
+use Rattle.octets.specs.Split.{splitBy}
 use Rattle.descriptors.specs.Parse.{split}
 use Rattle.descriptors.specs.Tested.{risesFrom, splitOk, unreserved}
 use Rattle.keypage.specs.Page.{pageMax, pageOk, fieldsOk}
@@ -34,11 +35,11 @@ unfolding listing listingNumber decimal digitsWithin
 reserved-listed p short h = rw (le-ltb pageMax (length p) short, reserved-number p h)
 
 pub example-listed : ExampleListed
-unfolding listing listingNumber fieldLines pageReadNumber pageOk fieldsOk partBroken partRefused partLong splitOk risesFrom unreserved split sizeOf sizeSaid all decimal digitsWithin
+unfolding listing listingNumber fieldLines pageReadNumber pageOk fieldsOk partBroken partRefused partLong splitOk risesFrom unreserved split splitBy sizeOf sizeSaid all decimal digitsWithin
 example-listed = refl
 
 pub wrong-type-listed : WrongTypeListed
-unfolding listing listingNumber fieldLines pageReadNumber pageOk fieldsOk partBroken partRefused partLong splitOk risesFrom unreserved split sizeOf sizeSaid all decimal digitsWithin
+unfolding listing listingNumber fieldLines pageReadNumber pageOk fieldsOk partBroken partRefused partLong splitOk risesFrom unreserved split splitBy sizeOf sizeSaid all decimal digitsWithin
 wrong-type-listed = (refl, refl)
 
 pub text-room : TextRoom

@@ -6,7 +6,7 @@ use lib.Dec.{eqb, ltb}
 use lib.ListN.{length, getD, replicate}
 use Rattle.octets.specs.Lent.{when, over}
 use Rattle.wording.specs.Ascii.{ascii}
-use Rattle.wording.specs.Lines.{line, together}
+use Rattle.wording.specs.Lines.{line, refusedLine, together}
 use Rattle.keypage.specs.Page.{pageMax, scopeIn, lockIn, encryptionIn, decryptionIn, algorithmIn, formatIn, keyLength, listIn, pageListCount}
 use Rattle.keypage.specs.Read.{pageReadNumber}
 
@@ -30,9 +30,6 @@ fieldLines p =
 -- the same, of a page's fields in the order in which it is read
 abbrev pub linesIn : List ℕ → List ℕ
 linesIn f = linesOf (getD f 0 0) (getD f 1 0) (getD f 8 0) (getD f 9 0) (getD f 10 0) (getD f 11 0) (getD f 12 0) (getD f 13 0)
-
-abbrev pub refusedLine : ℕ → List ℕ
-refusedLine n = line (ascii "refused") n
 
 -- "Its tests are 2, 3 and 4." "One over 4,096 bytes prints `refused 4` with no other test."
 unfoldable pub listingNumber : List ℕ → ℕ

@@ -1,9 +1,9 @@
 -- Demand 3 (specs/Demand3.antt) and the laws of specs/Laws.antt.
 -- Assumes nothing.
 use mathlib.Core.Path.{_≡_, refl, sym, ap, _∙_}
-use mathlib.Core.Bool.{Bool, true, false}
 use mathlib.Core.List.{List}
-use Prim.Native.Nat.{ℕ}
+use Prim.Native.Nat.{ℕ, _+_}
+use native.Mathlib.Omega.{arith}
 use borrow.Author.Tests.{eqb-true}
 use lib.Dec.{eqb}
 use lib.ListN.{length, getD}
@@ -14,19 +14,22 @@ use Rattle.octets.proofs.Unique.{unique, unique-by}
 use Rattle.keytable.specs.Row.{Row}
 use Rattle.keytable.specs.Table.{tableOk, dataRow}
 use Rattle.keytable.proofs.Laws.{kek-row-more}
-use Rattle.record.specs.Record.{endIn, nameIn, ivIn}
+use Rattle.modes.proofs.Named.{each-mode}
+use Rattle.record.specs.Record.{endAt, endIn, nameIn, ivIn}
 use Rattle.record.specs.Read.{headerSays, headerNumber, headerAnswer}
 use Rattle.record.specs.Seal.{sealAnswer}
 use Rattle.record.specs.Open.{plaintextBy, openNumber, openAnswer}
 use Rattle.record.specs.Demand3.{Refuses, OpensExactly, OnePlaintext, OneOpening, ElseRefuses, SealedOpens}
-use Rattle.record.specs.Laws.{HeaderThere, HeaderBack, SealOtherRows, OpenOtherRows, SealBesideKek, OpenBesideKek, HeaderUnique, EndUnique, RecordCheckUnique, SealUnique, RecordOpenUnique}
+use Rattle.record.specs.Laws.{HeaderThere, HeaderBack, EndSum, SealOtherRows, OpenOtherRows, SealBesideKek, OpenBesideKek}
+use Rattle.record.specs.Laws.{HeaderUnique, EndUnique, RecordCheckUnique, SealUnique, RecordOpenUnique}
 use Rattle.record.specs.Laws.{HeaderTestsRise, SealTestsRise, RecordTagTestsRise, OpenTestsRise}
 use Rattle.record.specs.declared.header.Header.{Header}
 use Rattle.record.specs.declared.header.Header.the-variants.{Fields, BadForm, BadMode, TooLong}
 use Rattle.record.proofs.Written.{read-back, front-back}
 use Rattle.record.proofs.Laid.{Laid}
 use Rattle.record.proofs.Sealed.{textBy, tagBy, SealedAs, as-keyed, seals-as, as-seals, as-laid}
-use Rattle.record.proofs.Opened.{OpenedAs, open-refused, open-number, opened-row, opens-size, opens-as, as-opens}
+use Rattle.record.proofs.OpenNumbers.{row-refused}
+use Rattle.record.proofs.Opened.{open-number, some-opened, opens-size, opens-as, as-opens}
 use Rattle.record.proofs.Exactly.{plaintext-back, opened-sealed, sealed-opened}
 
 -- ---- demand 3
@@ -63,7 +66,8 @@ one-opening t r a out count p p′ h h′ =
     over-injective p p′ out (sym size ∙ size′) fits′ (ap (λ (x : (ℕ × List ℕ) × ℕ). x .0 .1) (sym (h .answers) ∙ h′ .answers))
 
 pub else-refuses : ElseRefuses
-else-refuses t r a out count table-bytes bytes none = go (eqb number 0) refl
+else-refuses t r a out count table-bytes bytes none =
+    record { refusal = number; not-zero = not-zero; answers = row-refused (tableOk t) (dataRow t (nameIn r)) r a out count refl not-zero }
   where
     number : ℕ
     number = openNumber (tableOk t) (dataRow t (nameIn r)) r a (length out)
@@ -71,13 +75,8 @@ else-refuses t r a out count table-bytes bytes none = go (eqb number 0) refl
     -- where the number is 0, some p is opened
     not-zero : number ≡ 0 → ⊥
     not-zero e =
-        let (row, has, able) = opened-row t r a out count (open-number t r a out count ∙ e) in
-        let opened : OpenedAs t r a out (plaintextBy (row .rowKey) r) = record { row = row; has-row = has; able = able; is = refl } in
-        none (plaintextBy (row .rowKey) r) (as-seals t (nameIn r) (ivIn r) a _ r table-bytes (opened-sealed t r a out _ table-bytes bytes opened))
-
-    go : (b : Bool) → eqb number 0 ≡ b → Refuses t r a out count
-    go true e = absurd (not-zero (eqb-true number 0 e))
-    go false e = record { refusal = number; not-zero = not-zero; answers = open-refused (tableOk t) (dataRow t (nameIn r)) r a out count e }
+        let (p, opened) = some-opened t r a out count (open-number t r a out count ∙ e) in
+        none p (as-seals t (nameIn r) (ivIn r) a p r table-bytes (opened-sealed t r a out p table-bytes bytes opened))
 
 pub sealed-opens : SealedOpens
 sealed-opens t name iv a p r out count table-bytes bytes h room =
@@ -102,6 +101,9 @@ header-there u n name rest short few = read-back u n name rest short few
 
 pub header-back : HeaderBack
 header-back r bytes layout = front-back r bytes layout
+
+pub end-sum : EndSum
+end-sum u k n = each-mode (λ m. endAt m k n ≡ 52 + k + n) (omega arith) (omega arith) u
 
 -- ---- other rows
 

@@ -4,6 +4,7 @@ pub mod OpenNumbers
 pub mod Parts
 pub mod Reading
 pub mod Apart
+pub mod OpenReady
 pub mod Written
 pub mod Filled
 pub mod Laid
@@ -14,4 +15,5 @@ pub mod Opened
 pub mod Exactly
 pub mod Earlier
 pub mod Laws
+pub mod VerifyLaws
 pub mod SessionLaws

@@ -82,12 +82,6 @@ module _ (ok : Bool) (r a : List ℕ) (room : ℕ) where
         h .authentic,
       )
 
--- any other number changes neither the output nor the count
-pub open-refused : (ok : Bool) (row : Option Row) (r a out : List ℕ) (count : ℕ) → eqb (openNumber ok row r a (length out)) 0 ≡ false
-    → openRow ok row r a out count ≡ ((openNumber ok row r a (length out), out), count)
-unfolding openRow
-open-refused ok row r a out count e = rw e
-
 -- ---- the plaintext is as long as the ciphertext
 
 pub length-plaintextBy : (key r : List ℕ) → Keyed (modeFor r) key (ivIn r) → layoutOk r ≡ true → length (plaintextBy key r) ≡ countIn r
@@ -128,6 +122,10 @@ module _ (t r a out : List ℕ) (count : ℕ) where
       let number = sym open-number ∙ e in
       let (row, has) = open-row (tableOk t) r a (length out) (dataRow t (nameIn r)) number in
       (row, has, openable (tableOk t) r a (length out) row (rw has at number))
+
+  -- so some p is opened
+  pub some-opened : openAnswer t r a out count .0 .0 ≡ 0 → (p : List ℕ) × OpenedAs t r a out p
+  some-opened e = let (row, has, able) = opened-row e in (plaintextBy (row .rowKey) r, record { row = row; has-row = has; able = able; is = refl })
 
   -- where p is what is opened: the count is its length, and there is room for it
   pub opens-size : (p : List ℕ) → Opens t r a out count p → (countIn r ≡ length p) × (length p ≤ length out)

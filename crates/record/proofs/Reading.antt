@@ -4,16 +4,19 @@ use mathlib.Core.Path.{_≡_, refl, sym, ap, _∙_}
 use mathlib.Core.Bool.{Bool, true, false, false≢true}
 use mathlib.Core.List.{List, [], _∷_}
 use mathlib.Core.Option.{Option}
-use Prim.Native.Nat.{ℕ}
+use Prim.Native.Nat.{ℕ, _≤_}
+use native.Mathlib.Omega.{arith}
 use borrow.Author.Tests.{not-false}
 use lib.ListN.{getD}
 use Rattle.octets.proofs.Lent.{testAt, none-applies}
-use Rattle.keytable.specs.Row.{Row}
+use Rattle.keytable.specs.Row.{nameMax, Row}
+use Rattle.modes.specs.Calls.{textMax}
 use Rattle.modes.specs.Modes.{namesMode}
 use Rattle.record.specs.Record.{modeIn, countIn, nameSize, layoutOk}
 use Rattle.record.specs.Read.{passes, headerTests, headerNumber, headerSays, headerAnswer}
-use Rattle.record.specs.Open.{openRow}
-use Rattle.record.proofs.OpenNumbers.{open-two, open-three, open-four}
+use Rattle.record.specs.Open.{openNumber}
+use Rattle.record.proofs.Lengths.{name-within, count-within}
+use Rattle.record.proofs.OpenNumbers.{number-two, number-three, number-four}
 use Rattle.record.specs.declared.header.Header.{Header}
 
 module _ (r : List ℕ) where
@@ -71,21 +74,23 @@ header-accepted r u k n e =
     whole : _≡_ {A = ℕ × List ℕ} (0, u ∷ k ∷ n ∷ []) (0, modeIn r ∷ nameSize r ∷ countIn r ∷ [])
     whole = e ∙ header-zero r layout mode-ok (no 2)
 
+-- and within their maxima
+pub fields-within : (r : List ℕ) (u k n : ℕ) → HeaderAccepted r u k n → (k ≤ nameMax) × (n ≤ textMax)
+fields-within r u k n is =
+    (omega (arith, is .size-is, name-within (nameSize r) (countIn r) (is .short)), omega (arith, is .count-is, count-within (nameSize r) (countIn r) (is .short)))
+
 -- ---- a record that reading refuses, opened
 
-pub open-unread : (row : Option Row) (r a out : List ℕ) (count : ℕ) (h : Header) → headerSays h ≡ headerAnswer r → (headerSays h .0 ≡ 0 → ⊥)
-    → openRow true row r a out count ≡ ((headerSays h .0, out), count)
+pub number-unread : (row : Option Row) (r a : List ℕ) (room : ℕ) (h : Header) → headerSays h ≡ headerAnswer r → (headerSays h .0 ≡ 0 → ⊥)
+    → openNumber true row r a room ≡ headerSays h .0
 unfolding headerNumber
-open-unread row r a out count h e never = go (layoutOk r) (namesMode (modeIn r)) (passes (nameSize r) (countIn r)) refl refl refl
+number-unread row r a room h e never = go (layoutOk r) (namesMode (modeIn r)) (passes (nameSize r) (countIn r)) refl refl refl
   where
     number : (n : ℕ) → headerNumber r ≡ n → headerSays h .0 ≡ n
     number n is = header-number r h e ∙ is
 
-    told : (n : ℕ) → headerNumber r ≡ n → openRow true row r a out count ≡ ((n, out), count) → openRow true row r a out count ≡ ((headerSays h .0, out), count)
-    told n is o = o ∙ ap (λ (k : ℕ). ((k, out), count)) (sym (number n is))
-
-    go : (x y z : Bool) → layoutOk r ≡ x → namesMode (modeIn r) ≡ y → passes (nameSize r) (countIn r) ≡ z → openRow true row r a out count ≡ ((headerSays h .0, out), count)
-    go false y z ex ey ez = told 2 (rw ex) (open-two true row r a out count refl ex)
-    go true false z ex ey ez = told 3 (rw (ex, ey)) (open-three true row r a out count refl ex ey)
-    go true true true ex ey ez = told 4 (rw (ex, ey, ez)) (open-four true row r a out count refl ex ey (rw ez))
+    go : (x y z : Bool) → layoutOk r ≡ x → namesMode (modeIn r) ≡ y → passes (nameSize r) (countIn r) ≡ z → openNumber true row r a room ≡ headerSays h .0
+    go false y z ex ey ez = number-two true row r a room refl ex ∙ sym (number 2 (rw ex))
+    go true false z ex ey ez = number-three true row r a room refl ex ey ∙ sym (number 3 (rw (ex, ey)))
+    go true true true ex ey ez = number-four true row r a room refl ex ey (rw ez) ∙ sym (number 4 (rw (ex, ey, ez)))
     go true true false ex ey ez = absurd (never (number 0 (rw (ex, ey, ez))))

@@ -3,26 +3,27 @@
 use mathlib.Core.Path.{_≡_}
 use mathlib.Core.Logic.{_↔_}
 use mathlib.Core.Bool.{Bool, true, false}
-use mathlib.Core.List.{List, _++_}
+use mathlib.Core.List.{List, [], _∷_, _++_}
 use mathlib.Core.Option.{Option, some}
-use Prim.Native.Nat.{ℕ, zero, suc, _^_, _≤_, _<_}
+use Prim.Native.Nat.{ℕ, zero, suc, _+_, _^_, _≤_, _<_}
 use lib.ListN.{length, take, drop}
 use Rattle.octets.specs.Bytes.{Bytes}
 use Rattle.octets.specs.Lent.{over}
 use Rattle.octets.specs.Lowest.{rises}
 use Rattle.octets.specs.Unique.{Unique, UniqueBy}
 use Rattle.keytable.specs.Row.{nameMax, kekUse, Row}
-use Rattle.keytable.specs.Table.{tableOk, dataRow}
+use Rattle.keytable.specs.Table.{tableOk, dataRow, rowAt}
 use Rattle.keytable.specs.Laws.{RowMore}
 use Rattle.modes.specs.Calls.{textMax}
 use Rattle.modes.specs.Modes.{namesMode, modeOf}
 use Rattle.session.specs.Iv.{isSpent, ivOf, nextSession}
 use Rattle.session.specs.Calls.{SessionAnswer, sessionAfter}
 use Rattle.session.specs.declared.Session.{Session}
-use Rattle.record.specs.Record.{modeIn, countIn, nameSize, endIn, layoutOk, frontIn, nameIn, ivIn, recordFront}
+use Rattle.record.specs.Record.{endAt, modeIn, countIn, nameSize, endIn, layoutOk, frontIn, nameIn, ivIn, recordFront}
 use Rattle.record.specs.Read.{headerTests, headerSays, headerNumber, headerAnswer}
 use Rattle.record.specs.Seal.{callersMax, recordOf, sealedSize, sealTests, sealAnswer}
-use Rattle.record.specs.Open.{recordTagTests, openTests, openAnswer}
+use Rattle.record.specs.Open.{recordTagTests, openTests, openAnswer, verifyAnswer, openedAt, openingSays}
+use Rattle.record.specs.Demand3.{Opens, Seals}
 use Rattle.record.specs.Next.{sealedSays, sealNextTests, sealNextAnswer}
 
 -- ---- the header, there and back
@@ -40,6 +41,10 @@ HeaderThere = (u n : ℕ) (name rest : List ℕ) → length name ≤ nameMax →
 -- the first 24+k bytes of a record that keeps to the layout are the header written from its fields, and its name
 abbrev pub HeaderBack : Type 0
 HeaderBack = (r : List ℕ) → Bytes r → layoutOk r ≡ true → frontIn r ≡ recordFront (modeIn r) (nameIn r) (countIn r)
+
+-- "and the end at 52+k+n", in either mode
+abbrev pub EndSum : Type 0
+EndSum = (u k n : ℕ) → endAt (modeOf u) k n ≡ 52 + k + n
 
 -- ---- sealing in range
 
@@ -82,6 +87,10 @@ OpenOtherRows =
     (t u r a out : List ℕ) (count : ℕ) → tableOk t ≡ true → tableOk u ≡ true → dataRow t (nameIn r) ≡ dataRow u (nameIn r)
     → openAnswer t r a out count ≡ openAnswer u r a out count
 
+abbrev pub VerifyOtherRows : Type 0
+VerifyOtherRows =
+    (t u r a : List ℕ) → tableOk t ≡ true → tableOk u ≡ true → dataRow t (nameIn r) ≡ dataRow u (nameIn r) → verifyAnswer t r a ≡ verifyAnswer u r a
+
 abbrev pub NextOtherRows : Type 0
 NextOtherRows =
     (s : Session) (t u name a p out : List ℕ) → tableOk t ≡ true → tableOk u ≡ true → dataRow t name ≡ dataRow u name
@@ -99,10 +108,51 @@ OpenBesideKek =
     (t u : List ℕ) (row : Row) (r a out : List ℕ) (count : ℕ) → tableOk t ≡ true → tableOk u ≡ true → RowMore t u row → row .rowUse ≡ kekUse
     → openAnswer u r a out count ≡ openAnswer t r a out count
 
+abbrev pub VerifyBesideKek : Type 0
+VerifyBesideKek =
+    (t u : List ℕ) (row : Row) (r a : List ℕ) → tableOk t ≡ true → tableOk u ≡ true → RowMore t u row → row .rowUse ≡ kekUse
+    → verifyAnswer u r a ≡ verifyAnswer t r a
+
 abbrev pub NextBesideKek : Type 0
 NextBesideKek =
     (s : Session) (t u : List ℕ) (row : Row) (name a p out : List ℕ) → tableOk t ≡ true → tableOk u ≡ true → RowMore t u row → row .rowUse ≡ kekUse
     → sealNextAnswer s u name a p out ≡ sealNextAnswer s t name a p out
+
+-- ---- verification
+
+-- it is the number that opening gives into any output with room for n bytes
+abbrev pub VerifyAsOpening : Type 0
+VerifyAsOpening = (t r a out : List ℕ) (count : ℕ) → countIn r ≤ length out → verifyAnswer t r a ≡ openAnswer t r a out count .0 .0
+
+-- so 0 exactly when opening with room gives some p, and exactly when some p was sealed so (specs/Demand3.antt)
+pub record SomeSeals (t name iv a r : List ℕ) : Type 0 where
+  pub plain : List ℕ
+  pub seals : Seals t name iv a plain r
+
+abbrev pub VerifyExactly : Type 0
+VerifyExactly = (t r a : List ℕ) → Bytes t → Bytes r → (verifyAnswer t r a ≡ 0) ↔ SomeSeals t (nameIn r) (ivIn r) a r
+
+pub record SomeOpens (t r a out : List ℕ) (count : ℕ) : Type 0 where
+  pub plain : List ℕ
+  pub opens : Opens t r a out count plain
+
+abbrev pub VerifyOpens : Type 0
+VerifyOpens = (t r a out : List ℕ) (count : ℕ) → Bytes t → Bytes r → countIn r ≤ length out → (verifyAnswer t r a ≡ 0) ↔ SomeOpens t r a out count
+
+-- it is never 5
+abbrev pub VerifyNotFive : Type 0
+VerifyNotFive = (t r a : List ℕ) → verifyAnswer t r a ≡ 5 → ⊥
+
+-- what a caller that has checked the table is told is that number, and with 0 the place of the row of the record's name
+abbrev pub OpenedVerifies : Type 0
+OpenedVerifies = (t r a : List ℕ) → tableOk t ≡ true → openedAt t r a .0 ≡ verifyAnswer t r a
+
+abbrev pub OpenedByRow : Type 0
+OpenedByRow = (t r a : List ℕ) (place : ℕ) → tableOk t ≡ true → openedAt t r a ≡ (0, place ∷ []) → dataRow t (nameIn r) ≡ some (rowAt t place)
+
+-- and 0 comes with a place
+abbrev pub OpenedPlaced : Type 0
+OpenedPlaced = (t r a : List ℕ) → openedAt t r a .0 ≡ 0 → openedAt t r a .1 ≡ [] → ⊥
 
 -- ---- what an output held before never matters, only its length: two outputs of one length get one number, and after 0 the same bytes up to
 -- the result's end and their own after it
@@ -209,6 +259,12 @@ SealUnique = (t name iv a p out : List ℕ) → Unique (sealAnswer t name iv a p
 
 abbrev pub RecordOpenUnique : Type 0
 RecordOpenUnique = (t r a out : List ℕ) (count : ℕ) → Unique (openAnswer t r a out count)
+
+abbrev pub RecordVerifyUnique : Type 0
+RecordVerifyUnique = (t r a : List ℕ) → Unique (verifyAnswer t r a)
+
+abbrev pub OpenedByUnique : Type 0
+OpenedByUnique = (t r a : List ℕ) → UniqueBy openingSays (openedAt t r a)
 
 abbrev pub SealByUnique : Type 0
 SealByUnique = (s : Session) (t name a p out : List ℕ) → UniqueBy sealedSays (sealNextAnswer s t name a p out)

@@ -1,5 +1,6 @@
 -- The record of document 01 ("Record"): its layout, its parts, and the bytes before its IV.
 -- Assumes nothing.
+use mathlib.Core.Path.{_≡_}
 use Prim.Native.Nat.{ℕ, _+_}
 use mathlib.Core.Bool.{Bool}
 use mathlib.Core.List.{List, [], _∷_, _++_}
@@ -34,6 +35,14 @@ tagAt m k n = textAt m k + n
 
 abbrev pub endAt : Mode → ℕ → ℕ → ℕ
 endAt m k n = tagAt m k n + m .tagSize
+
+-- the places of the parts after the name, and how long the IV and the tag are
+pub record PartsAt (u k n iv ivlong text tag taglong : ℕ) : Type 0 where
+  pub iv-at : iv ≡ ivAt k
+  pub iv-long : ivlong ≡ modeOf u .ivSize
+  pub text-at : text ≡ textAt (modeOf u) k
+  pub tag-at : tag ≡ tagAt (modeOf u) k n
+  pub tag-long : taglong ≡ modeOf u .tagSize
 
 -- ---- read: "4-7 plaintext count n", "10-11 name length k"
 

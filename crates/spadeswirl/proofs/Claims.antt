@@ -21,7 +21,7 @@ use Rattle.modes.specs.Modes.{namesMode}
 use Rattle.record.specs.Record.{modeIn, countIn, nameSize, nameIn, header}
 use Rattle.record.specs.Read.{passes}
 use Rattle.record.specs.Seal.{callersMax}
-use Rattle.record.proofs.OpenNumbers.{open-four}
+use Rattle.record.proofs.OpenNumbers.{number-four, row-refused}
 use Rattle.record.proofs.Parts.{Kept, kept-layout}
 use Rattle.record.proofs.Written.{header-mode, header-count, header-size, header-kept}
 use Rattle.spadeswirl.specs.Claims.{SboxValues, Product, Doubled, CcmFlags, DataLength, LeastRecord, GreatestRecord, OneByteMore, claims, EachHolds}
@@ -57,7 +57,8 @@ greatest-record = (refl, refl)
 
 one-byte-more : OneByteMore
 one-byte-more t rest a out count u k good mode-ok named short whole =
-    open-four (tableOk t) (dataRow t (nameIn r)) r a out count good (kept-layout r kept) (ap namesMode mode-is ∙ mode-ok) too-long
+    row-refused (tableOk t) (dataRow t (nameIn r)) r a out count
+    (number-four (tableOk t) (dataRow t (nameIn r)) r a (length out) good (kept-layout r kept) (ap namesMode mode-is ∙ mode-ok) too-long) (λ z. omega arith)
   where
     r : List ℕ
     r = header u k 1048577 ++ rest

@@ -1,8 +1,8 @@
-// Records: sealed, opened, and checked by themselves.
+// Records: sealed, opened, verified, and checked by themselves.
 ghost use mathlib.Core.Path.{_≡_};
 ghost use Rattle.record.specs.Read.{headerNumber};
 ghost use Rattle.record.specs.Seal.{sealAnswer};
-ghost use Rattle.record.specs.Open.{openAnswer};
+ghost use Rattle.record.specs.Open.{openAnswer, verifyAnswer};
 
 #[no_mangle]
 pub extern "C" fn spadeswirl_seal(
@@ -29,6 +29,13 @@ pub extern "C" fn spadeswirl_open(
     ensures { λ x. ⌜ openAnswer (now (table .entry)) (now (sealed .entry)) (now (aad .entry)) (now (out .entry)) (now (count .entry)) ≡ ((x, now (out .exit)), now (count .exit)) ⌝ }
 {
     record::opening::open(table, sealed, aad, out, count)
+}
+
+#[no_mangle]
+pub extern "C" fn spadeswirl_verify(table: &[u8], sealed: &[u8], aad: &[u8]) -> u8
+    ensures { λ x. ⌜ x ≡ verifyAnswer (now (table .entry)) (now (sealed .entry)) (now (aad .entry)) ⌝ }
+{
+    record::opening::verify(table, sealed, aad)
 }
 
 #[no_mangle]

@@ -2,22 +2,24 @@
 -- Assumes nothing.
 use mathlib.Core.Path.{_≡_, refl, sym, ap, _∙_}
 use mathlib.Core.Bool.{Bool, true, false}
-use mathlib.Core.List.{List, [], _∷_}
-use Prim.Native.Nat.{ℕ, _+_, _/_, _%_, _≤_, _<_}
+use mathlib.Core.List.{List, [], _∷_, _++_, append-assoc}
+use Prim.Native.Nat.{ℕ, _+_, _-_, _/_, _%_, _≤_, _<_}
 use native.Mathlib.Omega.{arith}
 use borrow.Author.Tests.{eq-eqb, leb-true, leb-false}
 use lib.Dec.{leb}
 use lib.ListN.{length, length-append}
 use Rattle.octets.specs.Bytes.{Bytes}
 use Rattle.octets.specs.Lent.{over}
-use Rattle.octets.specs.Tests.{all}
+use Rattle.octets.specs.Tests.{all, partOf}
 use Rattle.octets.proofs.Bytes.{bytes-head, bytes-tail}
 use Rattle.octets.proofs.Values.{cons-equal}
+use Rattle.octets.proofs.Tests.{part-at}
 use Rattle.octets.proofs.Unique.{unique}
+use Rattle.wording.specs.Decimal.{decimal, valueOf}
 use Rattle.wording.specs.Hex.{isHexDigit, digitOf, isHex, hexByte, hexBytes, digitsOf, hexRead}
-use Rattle.wording.specs.Lines.{together}
+use Rattle.wording.specs.Lines.{space, newline, line, together}
 use Rattle.wording.specs.Writing.{nowhere, putAt, putAll}
-use Rattle.wording.specs.Laws.{DecimalReads, DecimalDigits, NoZeroBefore, DigitsLength, ThereAndBack, ReadTestsRise, ReadUnique, NowhereStays, LastTells, PutUnique}
+use Rattle.wording.specs.Laws.{DecimalReads, DecimalDigits, NoZeroBefore, LineReads, DigitsLength, ThereAndBack, ReadTestsRise, ReadUnique, NowhereStays, LastTells, PutUnique}
 use Rattle.wording.proofs.Decimal.{decimal-value, decimal-are, decimal-first}
 use Rattle.wording.proofs.Digits.{digit-counts, length-digitsOf, read-done}
 use Rattle.wording.proofs.Wrote.{put-not, put-fits, put-wrote, wrote-length, Puts, puts, done, puts-wrote}
@@ -29,6 +31,17 @@ decimal-reads = decimal-value
 
 pub decimal-digits : DecimalDigits
 decimal-digits = decimal-are
+
+pub line-reads : LineReads
+line-reads word n = ap valueOf (ap (λ (l : List ℕ). partOf l (length word + 1) digits) (sym (append-assoc word (space ∷ []) (decimal n ++ newline ∷ []))) ∙ between) ∙ decimal-reads n
+  where
+    digits : ℕ
+    digits = length (line word n) - (length word + 2)
+
+    between : partOf (word ++ (space ∷ []) ++ (decimal n ++ newline ∷ [])) (length word + 1) digits ≡ decimal n
+    between =
+        part-at (word ++ (space ∷ [])) (decimal n) (newline ∷ []) (length word + 1) digits (length-append word (space ∷ []))
+        (omega (arith, length-append word (space ∷ (decimal n ++ newline ∷ [])), length-append (decimal n) (newline ∷ [])))
 
 pub no-zero-before : NoZeroBefore
 no-zero-before n = decimal-first n .1

@@ -13,8 +13,8 @@ use Rattle.octets.specs.Lent.{over}
 use Rattle.octets.proofs.Lent.{over-fits}
 use Rattle.wording.specs.Decimal.{decimal}
 use Rattle.wording.specs.Hex.{digitOf, digitsOf}
-use Rattle.wording.specs.Lines.{space, newline, together}
-use Rattle.wording.specs.Writing.{nowhere, putAt, Wrote}
+use Rattle.wording.specs.Lines.{space, newline, line, together}
+use Rattle.wording.specs.Writing.{nowhere, putAt, Wrote, WroteIfFits}
 use Rattle.wording.proofs.Decimal.{length-decimal64}
 use Rattle.wording.proofs.Digits.{length-digitsOf, digits-turn}
 
@@ -120,6 +120,27 @@ puts-wrote {at} {room = room} (puts {s = s} {ss = ss} e more) h =
     let size = length-append s (together ss) in
     let first = put-fits at s room (omega arith) e in
     wrote-then first (puts-wrote more (omega (arith, first .place, wrote-length first)))
+
+-- ---- texts that are written where they fit
+
+pub nothing-wrote : (at : ℕ) (room : List ℕ) → WroteIfFits at [] room room at
+nothing-wrote at room = record { wrote = λ h. puts-wrote done h }
+
+pub put-wrote-if : {at end : ℕ} {s room after : List ℕ} → putAt at s room ≡ (end, after) → WroteIfFits at s room after end
+put-wrote-if {at} {end} {s} {room} e = record { wrote = λ h. put-fits at s room h e }
+
+pub both-wrote : {at m e : ℕ} {s t before between final : List ℕ} → WroteIfFits at s before between m → WroteIfFits m t between final e → WroteIfFits at (s ++ t) before final e
+both-wrote {at} {m} {e} {s} {t} {before} {between} {final} f g = record { wrote = both-fit }
+  where
+    both-fit : at + length (s ++ t) ≤ length before → Wrote at (s ++ t) before final e
+    both-fit h =
+        let size = length-append s t in
+        let first = f .wrote (omega arith) in
+        wrote-then first (g .wrote (omega (arith, first .place, wrote-length first)))
+
+-- a line is its word, and at most 22 bytes after it
+pub length-line64 : (word : List ℕ) (n : ℕ) → n < 2 ^ 64 → length (line word n) ≤ length word + 22
+length-line64 word n h = simp length-append (omega (arith, length-decimal64 n h))
 
 -- ---- at the front
 

@@ -1,18 +1,18 @@
 -- What reading and writing text promise, as statements; proofs/Laws.antt proves each.
 -- Assumes nothing.
 use mathlib.Core.Path.{_≡_}
-use Prim.Native.Nat.{ℕ, _*_, _≤_, _<_}
+use Prim.Native.Nat.{ℕ, _+_, _-_, _*_, _≤_, _<_}
 use mathlib.Core.Bool.{Bool, true}
 use mathlib.Core.List.{List}
 use lib.ListN.{length, getD}
 use Rattle.octets.specs.Bytes.{Bytes}
 use Rattle.octets.specs.Lent.{over}
 use Rattle.octets.specs.Lowest.{rises}
-use Rattle.octets.specs.Tests.{all}
+use Rattle.octets.specs.Tests.{all, partOf}
 use Rattle.octets.specs.Unique.{Unique}
 use Rattle.wording.specs.Decimal.{isDecimalDigit, decimalDigit, decimal, valueOf}
 use Rattle.wording.specs.Hex.{digitsOf, hexReadTests, hexRead}
-use Rattle.wording.specs.Lines.{together}
+use Rattle.wording.specs.Lines.{line, together}
 use Rattle.wording.specs.Writing.{nowhere, putAt, putAll}
 
 -- ---- decimal digits: read back they are the number, each is a digit, and no zero stands before others
@@ -25,6 +25,10 @@ DecimalDigits = (n : ℕ) → all isDecimalDigit (decimal n) ≡ true
 
 abbrev pub NoZeroBefore : Type 0
 NoZeroBefore = (n : ℕ) → getD (decimal n) 0 0 ≡ decimalDigit 0 → n ≡ 0
+
+-- so what stands between a line's word with its space and its newline reads back as its number
+abbrev pub LineReads : Type 0
+LineReads = (word : List ℕ) (n : ℕ) → valueOf (partOf (line word n) (length word + 1) (length (line word n) - (length word + 2))) ≡ n
 
 -- ---- hexadecimal digits
 

@@ -26,3 +26,7 @@ pub record Wrote (at : ℕ) (s before after : List ℕ) (end : ℕ) : Type 0 whe
   pub fits : at + length s ≤ length before
   pub place : end ≡ at + length s
   pub text : after ≡ take at before ++ (s ++ drop (at + length s) before)
+
+-- where s fits at the place, it was written there
+pub record WroteIfFits (at : ℕ) (s before final : List ℕ) (end : ℕ) : Type 0 where
+  pub wrote : at + length s ≤ length before → Wrote at s before final end

@@ -13,13 +13,13 @@ static void damaged(unsigned mode, size_t k, size_t n)
     for (size_t i = 0; i < record.len; i++)
         for (unsigned by = 1; by <= 128; by += 127) {
             checks("damaged", changed(record, i, by));
-            opens("damaged", keys, changed(record, i, by), aad, n + 2);
+            opens_and_verifies("damaged", keys, changed(record, i, by), aad, n + 2);
         }
     for (size_t bit = 0; bit < 128; bit++)
-        opens("tag", keys, changed(record, record.len - 16 + bit / 8, 1u << bit % 8), aad, n);
+        opens_and_verifies("tag", keys, changed(record, record.len - 16 + bit / 8, 1u << bit % 8), aad, n);
     for (size_t len = 0; len <= longer.len; len++) {
         checks("cut", cut(longer, len));
-        opens("cut", keys, cut(longer, len), aad, n + 2);
+        opens_and_verifies("cut", keys, cut(longer, len), aad, n + 2);
     }
 }
 
@@ -39,7 +39,7 @@ static void moved(const char *about, unsigned mode, const struct word *words, un
     record = joined(record_of(mode == 1, r->key, front, some(IV), aad, some(5)), some(1));
     record.len += more - 1;
     checks(about, record);
-    opens(about, keys, record, aad, 8);
+    opens_and_verifies(about, keys, record, aad, 8);
 }
 
 static void headers(unsigned mode)
@@ -61,8 +61,8 @@ static void headers(unsigned mode)
         checks("mode", record);
         checks("mode", cut(record, record.len - 1));
         if (value < 5) {
-            opens("mode", keys, record, nothing, 5);
-            opens("mode", keys, cut(record, record.len - 1), nothing, 5);
+            opens_and_verifies("mode", keys, record, nothing, 5);
+            opens_and_verifies("mode", keys, cut(record, record.len - 1), nothing, 5);
         }
     }
 }
@@ -76,14 +76,14 @@ static void narrow_sums(unsigned mode)
         struct bytes front = front_of(mode, r->name, 0x100000000 - less);
         struct bytes record = record_of(mode == 1, r->key, front, some(IV), nothing, nothing);
         checks("narrow", cut(record, record.len - less));
-        opens("narrow", keys, cut(record, record.len - less), nothing, 40);
+        opens_and_verifies("narrow", keys, cut(record, record.len - less), nothing, 40);
         checks("narrow", record);
     }
     for (size_t i = 0; i < COUNT(names); i++) {
         struct row longer = data_row(some(names[i]), r->key, mode);
         struct bytes record = record_by(&longer, nothing, 3);
         checks("narrow", record);
-        opens("narrow", keys, record, nothing, 3);
+        opens_and_verifies("narrow", keys, record, nothing, 3);
         checks("narrow", cut(record, (uint16_t)record.len));
     }
 }

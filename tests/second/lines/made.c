@@ -14,7 +14,7 @@ static const struct {
 } draws[] = {
     { 4, any_block }, { 5, any_encryption }, { 6, any_decryption }, { 2, any_wrap }, { 4, any_unwrap },
     { 4, any_table_check }, { 6, any_find },
-    { 8, any_seal }, { 14, any_open }, { 5, any_record_check },
+    { 8, any_seal }, { 14, any_open }, { 12, any_verify }, { 5, any_record_check },
     { 4, any_list_check }, { 3, any_list_step }, { 4, any_label_check },
     { 6, any_page_read }, { 16, any_page_load },
     { 1, any_session_start }, { 2, any_life }, { 7, any_seal_next },

@@ -106,6 +106,13 @@ static inline void any_open(void)
     write_made("open", w, 3, any_room(o.n, HAS(flaws, 5)));
 }
 
+static inline void any_verify(void)
+{
+    struct opening o = any_opening(FLAWS(1, 2, 3, 4, 6, 7, 9));
+    struct bytes w[] = { o.table, o.record, o.aad };
+    write_made("verify", w, 3, NO_OUTPUT);
+}
+
 static inline void any_record_check(void)
 {
     struct bytes record = any_opening(FLAWS(2, 3, 4)).record;

@@ -11,7 +11,7 @@ static void both_ways(const struct row *r, size_t n, size_t a)
 {
     struct bytes aad = some(a), record = record_by(r, aad, n);
     seals("length", keys, r->name, some(IV), aad, some(n), record.len);
-    opens("length", keys, record, aad, n);
+    opens_and_verifies("length", keys, record, aad, n);
     checks("length", record);
 }
 
@@ -32,7 +32,7 @@ static void lengths(unsigned mode)
         struct row r = data_row(names[i] > 32 ? joined(longest->name, extra) : some(names[i]), longest->key, mode);
         struct bytes record = record_by(&r, nothing, 3);
         seals("name-length", keys, r.name, some(IV), nothing, some(3), record.len);
-        opens("name-length", keys, record, nothing, 3);
+        opens_and_verifies("name-length", keys, record, nothing, 3);
         checks("name-length", record);
     }
 }
@@ -49,6 +49,7 @@ static void rooms(unsigned mode)
             seals("room", keys, r->name, some(IV), aad, plain, outs[j]);
         for (size_t j = 0; j < COUNT(ins); j++)
             opens("room", keys, record, aad, ins[j]);
+        verifies("room", keys, record, aad);
     }
 }
 
@@ -99,24 +100,26 @@ static void open_refused(unsigned mode)
                 record = record_of(mode == 1, named[m].key, front, some(IV), datas[a], some(n));
                 record.at[record.len - 1] ^= (unsigned char)(how >> 2);
                 checks("open-refused", record);
-                for (size_t t = 0; t < 2; t++)
+                for (size_t t = 0; t < 2; t++) {
                     for (size_t o = 0; o < 3; o++)
                         opens("open-refused", tables[t], record, datas[a], ins[o]);
+                    verifies("open-refused", tables[t], record, datas[a]);
+                }
             }
     /* the count too large, all else matching: alone and beside each other flaw */
     struct bytes wide = record_by(row_of(mode), datas[0], PLAIN_MAX + 1);
     checks("wide", wide);
-    opens("wide", keys, wide, datas[0], PLAIN_MAX + 1);
+    opens_and_verifies("wide", keys, wide, datas[0], PLAIN_MAX + 1);
     checks("wide", changed(wide, 2, mode | 4));
     checks("wide", changed(wide, 3, 1));
     if (mode == 2)
         return;
-    opens("wide", tables[1], wide, datas[0], PLAIN_MAX + 1);
-    opens("wide", keys, changed(wide, 3, 1), datas[0], PLAIN_MAX + 1);
-    opens("wide", keys, changed(wide, 2, 4), datas[0], PLAIN_MAX + 1);
-    opens("wide", keys, wide, datas[1], PLAIN_MAX + 1);
+    opens_and_verifies("wide", tables[1], wide, datas[0], PLAIN_MAX + 1);
+    opens_and_verifies("wide", keys, changed(wide, 3, 1), datas[0], PLAIN_MAX + 1);
+    opens_and_verifies("wide", keys, changed(wide, 2, 4), datas[0], PLAIN_MAX + 1);
+    opens_and_verifies("wide", keys, wide, datas[1], PLAIN_MAX + 1);
     opens("wide", keys, wide, datas[0], 16);
-    opens("wide", keys, changed(wide, HEADER, 128), datas[0], PLAIN_MAX + 1);
+    opens_and_verifies("wide", keys, changed(wide, HEADER, 128), datas[0], PLAIN_MAX + 1);
 }
 
 /* Empty strings and junk in every argument. */
@@ -127,7 +130,7 @@ static void junk(void)
     for (size_t t = 0; t < COUNT(tables); t++)
         for (size_t i = 0; i < COUNT(strings); i++)
             for (size_t j = 0; j < COUNT(strings); j++) {
-                opens("junk", tables[t], strings[i], strings[j], 9 * (j % 2));
+                opens_and_verifies("junk", tables[t], strings[i], strings[j], 9 * (j % 2));
                 seals("junk", tables[t], strings[i], strings[j], strings[i], strings[j], 9 * (j % 2));
             }
     for (size_t i = 0; i < COUNT(strings); i++)
@@ -154,7 +157,7 @@ static void tapes(unsigned mode)
         for (unsigned i = 0; i < 4; i++) {
             struct bytes table = table_of(some_of, count), aad = some(2);
             seals("tape", table, all[i].name, some(IV), aad, some(4), 64);
-            opens("tape", table, record_by(&all[i], aad, 4), aad, 6);
+            opens_and_verifies("tape", table, record_by(&all[i], aad, 4), aad, 6);
         }
     }
 }
@@ -171,7 +174,7 @@ static void tables(void)
         struct bytes table = table_of(all, counts[c]), empty = nothing;
         for (unsigned i = 0; i < 66; i += i < 4 || i > 57 ? 1 : 9) {
             seals("rows", table, all[i].name, some(IV), empty, some(7), 59 + all[i].name.len);
-            opens("rows", table, record_by(&all[i], empty, 7), empty, 7);
+            opens_and_verifies("rows", table, record_by(&all[i], empty, 7), empty, 7);
         }
     }
 }
@@ -183,21 +186,21 @@ static void another(unsigned mode)
     struct row mixed[] = { data_row(r->name, kin->key, mode), data_row(kin->name, r->key, mode),
         data_row(r->name, r->key, 3 - mode), data_row(other->name, other->key, mode), data_row(kek->name, kek->key, mode) };
     for (size_t i = 0; i < COUNT(mixed); i++)
-        opens("another", keys, record_by(&mixed[i], aad, 20), aad, 20);
+        opens_and_verifies("another", keys, record_by(&mixed[i], aad, 20), aad, 20);
     for (unsigned kind = 0; kind < COUNT(kinds); kind++) {
         struct row row = row_as(r->name, r->key, kind);
         seals("another", table_of(&row, 1), r->name, some(IV), aad, some(20), 80);
-        opens("another", table_of(&row, 1), record, aad, 20);
+        opens_and_verifies("another", table_of(&row, 1), record, aad, 20);
     }
     for (unsigned bit = 0; bit < 256; bit += 5) {
         struct row row = data_row(r->name, changed(r->key, bit / 8, 1u << bit % 8), mode);
-        opens("another", table_of(&row, 1), record, aad, 20);
+        opens_and_verifies("another", table_of(&row, 1), record, aad, 20);
     }
     for (unsigned bit = 0; bit < 72; bit++)
-        opens("data", keys, record, changed(aad, bit / 8, 1u << bit % 8), 20);
+        opens_and_verifies("data", keys, record, changed(aad, bit / 8, 1u << bit % 8), 20);
     for (size_t len = 0; len <= 9; len++)
-        opens("data", keys, record, cut(aad, len), 20);
-    opens("data", keys, record, joined(aad, cut(record, 1)), 20);
+        opens_and_verifies("data", keys, record, cut(aad, len), 20);
+    opens_and_verifies("data", keys, record, joined(aad, cut(record, 1)), 20);
 }
 
 /* Any row, any lengths, and now and then a flaw or two. */
@@ -213,7 +216,7 @@ static void mixed(void)
             table = changed(keys, byte() % keys.len, 1u << byte() % 8);
         seals("mixed", table, byte() < 16 ? some(byte()) : r->name, some(byte() < 16 ? byte() : IV), aad, some(n),
               400 - byte() % 100);
-        opens("mixed", table, record, aad, n ? n + 16 - byte() % 18 : byte());
+        opens_and_verifies("mixed", table, record, aad, n ? n + 16 - byte() % 18 : byte());
     }
 }
 

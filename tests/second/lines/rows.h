@@ -1,5 +1,5 @@
 /*
- * What the writers of lines on records share: the rows of a table, records sealed by them, and the three calls as
+ * What the writers of lines on records share: the rows of a table, records sealed by them, and the four calls as
  * lines. Nothing is freed: these programs are short.
  */
 #ifndef ROWS_H
@@ -96,6 +96,19 @@ static inline void opens(const char *about, struct bytes table, struct bytes rec
 {
     struct bytes w[] = { table, record, aad };
     write_call(about, "open", w, 3, room);
+}
+
+/* What opening gives, without an output. */
+static inline void verifies(const char *about, struct bytes table, struct bytes record, struct bytes aad)
+{
+    struct bytes w[] = { table, record, aad };
+    write_call(about, "verify", w, 3, NO_OUTPUT);
+}
+
+static inline void opens_and_verifies(const char *about, struct bytes table, struct bytes record, struct bytes aad, size_t room)
+{
+    opens(about, table, record, aad, room);
+    verifies(about, table, record, aad);
 }
 
 static inline void checks(const char *about, struct bytes record)

@@ -71,13 +71,19 @@ static void sealed(const char *about, struct bytes table, struct seen s)
     answers(about, number, record, room);
 }
 
-/* A record of a mode, made with the key of a kind of row: the data row opens it, where it is for the mode and has the key. */
+/*
+ * A record of a mode, made with the key of a kind of row: the data row opens it, where it is for the mode and has the key.
+ * Verifying it gives the same number.
+ */
 static void opened(const char *about, struct bytes table, struct seen s, unsigned mode, unsigned by)
 {
     struct bytes aad = some(5), plain = some(PLAIN);
     struct bytes record = record_of(mode == 1, key[by], front_of(mode, name, PLAIN), some(IV), aad, plain);
+    unsigned number = s.refused ? 1 : !s.has[0] ? 6 : s.use != mode ? 7 : by != mode - 1 ? 9 : 0;
     opens(about, table, record, aad, PLAIN + MORE);
-    answers(about, s.refused ? 1 : !s.has[0] ? 6 : s.use != mode ? 7 : by != mode - 1 ? 9 : 0, plain, PLAIN + MORE);
+    answers(about, number, plain, PLAIN + MORE);
+    verifies(about, table, record, aad);
+    answers(about, number, nothing, 0);
 }
 
 /* A reference gives the key of the data row, where that is for the page's index. */

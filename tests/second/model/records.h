@@ -1,6 +1,6 @@
 /*
  * Records, read anew from document 01, "Record" and "Numbers given back", and document 02, No. 2. Every length and every
- * sum of lengths is taken in 64 bits.
+ * sum of lengths is taken in 64 bits. Opening and verifying are one test of a record; verifying is lent no output.
  */
 #ifndef RECORDS_H
 #define RECORDS_H
@@ -94,10 +94,10 @@ static inline int seal(struct bytes *w, struct bytes out)
     return 0;
 }
 
-/* Table, record, associated data. */
-static inline int open_record(struct bytes *w, struct bytes out, unsigned long long *count)
+/* Table, record, associated data: the number of opening with so much room, and where it is 0 the plaintext, to be freed. */
+static inline int open_within(struct bytes *w, uint64_t room, struct bytes *plain)
 {
-    struct bytes r = w[1], key, iv, front, data, text, plain;
+    struct bytes r = w[1], key, iv, front, data, text;
     unsigned char *row;
     int number, right;
     if (table_bad(w[0]))
@@ -108,7 +108,7 @@ static inline int open_record(struct bytes *w, struct bytes out, unsigned long l
     if (number == 4 || w[2].len > CALLER_DATA_MAX)
         return 4;
     text.len = get(r.at + 4, 4);
-    if (out.len < text.len)
+    if (room < text.len)
         return 5;
     front.at = r.at, front.len = HEADER + get(r.at + 10, 2);
     row = row_for(w[0], DATA_TYPE, r.at + HEADER, front.len - HEADER);
@@ -120,14 +120,35 @@ static inline int open_record(struct bytes *w, struct bytes out, unsigned long l
     iv.at = r.at + front.len, iv.len = IV;
     text.at = iv.at + IV;
     data = joined(front, w[2]);
-    plain = room_for(text.len + TAG);
-    right = aead_decrypt(r.at[2] == 1, key, iv, data, text, text.at + text.len, plain.at);
-    if (right) {
-        memcpy(out.at, plain.at, text.len);
-        *count = text.len;
-    }
-    free(data.at), free(plain.at);
+    *plain = room_for(text.len + TAG);
+    plain->len = text.len;
+    right = aead_decrypt(r.at[2] == 1, key, iv, data, text, text.at + text.len, plain->at);
+    free(data.at);
+    if (!right)
+        free(plain->at);
     return right ? 0 : 9;
+}
+
+static inline int open_record(struct bytes *w, struct bytes out, unsigned long long *count)
+{
+    struct bytes plain;
+    int number = open_within(w, out.len, &plain);
+    if (number == 0) {
+        memcpy(out.at, plain.at, plain.len);
+        *count = plain.len;
+        free(plain.at);
+    }
+    return number;
+}
+
+/* What opening gives where there is room for the plaintext, which nobody gets. */
+static inline int verify_record(struct bytes *w)
+{
+    struct bytes plain;
+    int number = open_within(w, UINT64_MAX, &plain);
+    if (number == 0)
+        free(plain.at);
+    return number;
 }
 
 #endif

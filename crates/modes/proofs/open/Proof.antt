@@ -20,7 +20,7 @@ open-requires : tie.Need-open-requires
 open-requires c κs =
     let after-expand-key = c .before .before .before .before in
     let start = after-expand-key .before .before .before .before .before .before .before .before .before .before in
-    (ready after-expand-key, start .pre .1, start .pre .2, start .pre .3, start .pre .4, start .pre .5)
+    ((ready after-expand-key, start .pre .0 .1, start .pre .0 .2, start .pre .0 .3, start .pre .0 .4), start .pre .1)
 
 returns : tie.Need-returns
 returns c =
@@ -30,14 +30,14 @@ returns c =
     let start = copied .before .before .before .before .before .before .before .before .before in
     let a = start .args in
     gcm-opened (a .u) (a .key .now) (a .iv .now) (a .a .now ++ a .b .now) (a .c .now) (a .out .now)
-    (after-expand-key .expand-key .ensures) (copied .first32 .ensures ∙ over-zeros (a .key .now) 32 (start .pre .0))
+    (after-expand-key .expand-key .ensures) (copied .first32 .ensures ∙ over-zeros (a .key .now) 32 (start .pre .0 .0))
     (a .tag .now) (then1 .if1 .taken) (c .before .before .open .ensures)
 
 open-requires-2 : tie.Need-open-requires-2
 open-requires-2 c κs =
     let after-expand-key = c .before .before .before .before in
     let start = after-expand-key .before .before .before .before .before .before .before .before .before .before in
-    (ready after-expand-key, start .pre .1, start .pre .2, start .pre .3, start .pre .4, start .pre .5)
+    ((ready after-expand-key, start .pre .0 .1, start .pre .0 .2, start .pre .0 .3, start .pre .0 .4), start .pre .1)
 
 returns-2 : tie.Need-returns-2
 returns-2 c =
@@ -47,7 +47,7 @@ returns-2 c =
     let start = copied .before .before .before .before .before .before .before .before .before in
     let a = start .args in
     ccm-opened (a .u) (a .key .now) (a .iv .now) (a .a .now ++ a .b .now) (a .c .now) (a .out .now)
-    (after-expand-key .expand-key .ensures) (copied .first32 .ensures ∙ over-zeros (a .key .now) 32 (start .pre .0))
+    (after-expand-key .expand-key .ensures) (copied .first32 .ensures ∙ over-zeros (a .key .now) 32 (start .pre .0 .0))
     (a .tag .now) (else1 .if1 .left) (c .before .before .open2 .ensures)
 
 pub open-spec : {M : Type 1} → statement M

@@ -5,7 +5,7 @@ use lib.Dec.{lit<}
 use lib.ListN.{replicate}
 use borrow.Author.Needs.{needs}
 use Rattle.wording.proofs.Wrote.{put-fits}
-use Rattle.page_text.specs.Listing.{refusedLine}
+use Rattle.wording.specs.Lines.{refusedLine}
 use Rattle.page_text.proofs.Listing.{listing-long, listing-refused, listing-fields, refused-fits}
 use Rattle.page_text.proofs.put_listing.Statement.{statement}
 use Rattle.page_text.proofs.put_listing.Tie as tie

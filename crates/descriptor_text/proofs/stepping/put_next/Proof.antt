@@ -24,7 +24,8 @@ use Rattle.descriptors.proofs.reader.next as next
 use Rattle.descriptors.proofs.reader.next.Symbol as next-def
 use Rattle.descriptors.proofs.reader.next.Met as next-thm
 use Rattle.descriptor_text.specs.Lines.{descriptorLine}
-use Rattle.descriptor_text.specs.Shown.{WroteIfFits, StepWrote}
+use Rattle.wording.specs.Writing.{WroteIfFits}
+use Rattle.descriptor_text.specs.Shown.{StepWrote}
 use Rattle.descriptor_text.specs.declared.stepping.Stepped.{Stepped}
 use Rattle.walk.proofs.Walk.LocalLent.{over, borrowed, address, lends, has-back, field-out}
 use Rattle.descriptor_text.proofs.stepping.Stepped as P

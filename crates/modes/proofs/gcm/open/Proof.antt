@@ -1,60 +1,44 @@
--- `modes::gcm::open` meets its contract: the tag of the ciphertext decides, and then the plaintext is written.
+-- `modes::gcm::open` meets its contract: the tag decides, and then the plaintext is written.
 -- Assumes nothing.
-use mathlib.Core.Path.{_≡_}
 use mathlib.Core.List.{_++_}
-use Prim.Native.Nat.{ℕ}
 use native.Mathlib.Omega.{arith}
 use borrow.Author.Needs.{needs}
 use lib.Dec.{lit≤}
-use Rattle.octets.specs.Lent.{lowest}
 use Rattle.aes.specs.Cipher.{cipher}
 use Rattle.aes.proofs.Laws.{cipher-length}
-use Rattle.modes.specs.Calls.{authenticTests}
-use Rattle.modes.specs.Gcm.{gcmText, gcmTagRight}
+use Rattle.modes.specs.Gcm.{gcmText}
 use Rattle.modes.proofs.Numbers.{answer-refusal, answer-passed}
-use Rattle.modes.proofs.GcmTagged.{opened-number, text-written}
+use Rattle.modes.proofs.GcmTagged.{text-written}
 use Rattle.modes.proofs.gcm.open.Statement.{statement}
 use Rattle.modes.proofs.gcm.open.Tie as tie
 
-tested : (c : tie.After-tag-number)
-    → c .tag-number .result
-    ≡ (let a = c .before .before .before .before .before .before .before .before .before .before .args in
-    lowest (authenticTests (gcmTagRight (cipher (a .ks .now)) (a .iv .now) (a .a .now ++ a .b .now) (a .c .now) (a .tag .now))))
-tested c =
-    let tagged = c .before .before in
-    let based = tagged .before in
-    let start = based .before .before .before .before .before .before .before in
-    let a = start .args in
-    opened-number (cipher (a .ks .now)) (cipher-length (a .ks .now)) (a .iv .now) (a .a .now ++ a .b .now) (start .pre .1) (based .base-of .ensures)
-    (a .c .now) (a .tag .now) (tagged .tag-of .ensures) (c .tag-number .ensures)
-
 returns : tie.Need-returns
 returns c =
-    let start = c .before .before .before .before .before .before .before .before .before .before .before in
-    let a = start .args in
-    answer-refusal (gcmText (cipher (a .ks .now)) (a .iv .now) (a .c .now)) (a .out .now) (tested (c .before)) (λ e. omega arith)
+    let a = c .before .before .before .before .before .before .before .before .args in
+    answer-refusal (gcmText (cipher (a .ks .now)) (a .iv .now) (a .c .now)) (a .out .now) (c .before .verify .ensures) (λ e. omega arith)
 
 counter-requires : tie.Need-counter-requires
 counter-requires c κs =
-    let start = c .before .before .before .before .before .before .before .before .before .before .before .before in
-    (start .pre .0, start .pre .5, lit≤ tt)
+    let start = c .before .before .before .before .before .before .before .before .before .before in
+    (start .pre .0 .0, start .pre .1, lit≤ tt)
 
 returns-2 : tie.Need-returns-2
 returns-2 c =
-    let after-tag-number = c .before .before .before .before .before in
-    let after-base-of = after-tag-number .before .before .before in
-    let start = after-base-of .before .before .before .before .before .before .before in
+    let based = c .before .before .before .before in
+    let verified = based .before .before in
+    let start = verified .before .before .before .before .before .before .before in
     let a = start .args in
-    answer-passed (gcmText (cipher (a .ks .now)) (a .iv .now) (a .c .now)) (a .out .now) (tested after-tag-number) (omega arith)
-    (text-written (cipher (a .ks .now)) (cipher-length (a .ks .now)) (a .iv .now) (a .a .now ++ a .b .now) (start .pre .1) (after-base-of .base-of .ensures)
-    (a .c .now) (a .out .now) (start .pre .3) (c .before .before .counter .ensures))
+    answer-passed (gcmText (cipher (a .ks .now)) (a .iv .now) (a .c .now)) (a .out .now) (verified .verify .ensures) (omega arith)
+    (text-written (cipher (a .ks .now)) (cipher-length (a .ks .now)) (a .iv .now) (a .a .now ++ a .b .now) (start .pre .0 .1) (based .base-of .ensures)
+    (a .c .now) (a .out .now) (start .pre .0 .3) (c .before .before .counter .ensures))
 
 pub open-spec : {M : Type 1} → statement M
 open-spec =
     tie.close
     (tie.spec
-    (λ c κs. search needs) (λ c κs. search needs) (λ c. search needs) (λ c κs. search needs)
+    (λ c κs. search needs)
     returns
+    (λ c κs. search needs)
     counter-requires
     (λ c. search needs)
     returns-2)

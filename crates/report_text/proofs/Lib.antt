@@ -1,0 +1,5 @@
+pub mod Dump
+pub mod Opening
+pub mod Counts
+pub mod Texts
+pub mod Laws

@@ -1,0 +1,5 @@
+pub mod Dump
+pub mod Opens
+pub mod Report
+pub mod Counted
+pub mod Laws
