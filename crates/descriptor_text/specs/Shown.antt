@@ -2,8 +2,7 @@
 -- Assumes nothing.
 use mathlib.Core.Path.{_≡_}
 use mathlib.Core.List.{List, [], _∷_}
-use Prim.Native.Nat.{ℕ, zero, suc, _+_, _≤_}
-use lib.ListN.{length}
+use Prim.Native.Nat.{ℕ, zero, suc}
 use Rattle.wording.specs.Writing.{WroteIfFits}
 use Rattle.descriptors.specs.Steps.{advanceOf, partShown}
 use Rattle.descriptors.specs.declared.cursor.Cursor.{Cursor}

@@ -2,18 +2,16 @@
 -- Assumes nothing.
 use mathlib.Core.Path.{_≡_, refl, sym, ap, ap₂, _∙_}
 use mathlib.Core.Bool.{Bool, true, false}
-use mathlib.Core.List.{List, [], _∷_, _++_, flatten, append-assoc}
+use mathlib.Core.List.{List, [], _∷_, _++_, flatten, append-nil}
 use mathlib.Core.Option.{some, none}
-use Prim.Native.Nat.{ℕ, zero, suc, _+_, _≤_}
+use Prim.Native.Nat.{ℕ, _+_, _≤_}
 use native.Mathlib.Omega.{arith}
-use borrow.Author.Tests.{eqb-true, eqb-false, eq-eqb, ne-eqb}
-use lib.ListN.{length, take, drop, take-append-drop, length-drop, drop-of-length-le}
-use lib.Seq.{take-append-seam, drop-append-seam, drop-drop}
+use borrow.Author.Tests.{eqb-true, eqb-false}
+use lib.ListN.{length, take, drop, length-drop}
 use lib.Dec.{eqb}
 use Rattle.octets.specs.Lent.{when}
 use Rattle.octets.specs.Tests.{all, partOf}
-use Rattle.octets.specs.Split.{behind, splitBy}
-use Rattle.octets.proofs.Tests.{and-left, and-right}
+use Rattle.octets.specs.Split.{behind}
 use Rattle.octets.proofs.Split as o
 use Rattle.descriptors.specs.Descriptor.{descriptorHeadSize, isDescriptor, sizeOf}
 use Rattle.descriptors.specs.Parse.{split, parse}
@@ -69,15 +67,10 @@ descriptor-some d e z = let (zero-byte, long) = descriptor-parts d e in omega (a
 
 -- whole descriptors one after the other are found again
 pub split-flatten : (ds : List (List ℕ)) → all isDescriptor ds ≡ true → split (flatten ds) ≡ (ds, [])
-unfolding all flatten split splitBy
-split-flatten [] e = refl
-split-flatten (d ∷ ds) e =
-    let whole = and-left (isDescriptor d) (all isDescriptor ds) e in
-    let size = descriptor-size d (flatten ds) whole in
-    split-turn (d ++ flatten ds) (λ z. descriptor-some d whole (sym size ∙ z))
-    ∙ ap (λ (n : ℕ). behind (take n (d ++ flatten ds)) (split (drop n (d ++ flatten ds)))) size
-    ∙ ap₂ (λ (f l : List ℕ). behind f (split l)) (take-append-seam d (flatten ds)) (drop-append-seam d (flatten ds))
-    ∙ ap (behind d) (split-flatten ds (and-right (isDescriptor d) (all isDescriptor ds) e))
+unfolding split
+split-flatten ds e =
+    ap split (sym (append-nil (flatten ds)))
+    ∙ o.split-parts sizeOf size-within isDescriptor (λ d rest whole. (descriptor-size d rest whole, descriptor-some d whole)) ds [] e (size-nothing [] (omega arith))
 
 empty : (l : List ℕ) → length l ≡ 0 → l ≡ []
 empty [] e = refl

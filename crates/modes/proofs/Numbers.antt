@@ -1,14 +1,14 @@
 -- The numbers of a mode called by itself, for any mode: what the arguments alone decide, what passing their tests says of the lengths, and the answer then.
 -- Assumes nothing.
 use mathlib.Core.Path.{_≡_, refl, sym, ap, ap₂, _∙_}
-use mathlib.Core.Bool.{Bool, true, false, _||_}
+use mathlib.Core.Bool.{Bool, true, false}
 use mathlib.Core.List.{List, _++_}
 use Prim.Native.Nat.{ℕ, _+_, _≤_}
 use native.Mathlib.Nat.{add-zero}
 use borrow.Author.Tests.{ltb-false, eq-eqb, ne-eqb, le-ltb}
 use lib.Dec.{ltb}
 use lib.ListN.{length}
-use Rattle.octets.specs.Lent.{isNot, lowest, over, answer}
+use Rattle.octets.specs.Lent.{lowest, over, answer}
 use Rattle.octets.proofs.Tests.{or-left, or-right}
 use Rattle.octets.proofs.Lent.{isNot-right, answer-refused, none-applies}
 use Rattle.octets.proofs.Lowest.{lowest-refused, lowest-passed}

@@ -1,18 +1,19 @@
 -- A string cut into parts that tell their own size: turn by turn, and that the parts and what follows them are the string. For any size that is within
 -- the string.
 -- Assumes nothing.
-use mathlib.Core.Path.{_≡_, refl, sym, ap, _∙_}
+use mathlib.Core.Path.{_≡_, refl, sym, ap, ap₂, _∙_}
 use mathlib.Core.Bool.{Bool, true, false}
 use mathlib.Core.List.{List, [], _∷_, _++_, flatten, append-assoc}
 use Prim.Native.Nat.{ℕ, zero, suc, _+_, _≤_}
 use native.Mathlib.Omega.{arith}
 use borrow.Author.Tests.{eqb-true, eqb-false, eq-eqb, ne-eqb}
 use lib.ListN.{length, take, drop, take-append-drop, length-drop, drop-of-length-le}
-use lib.Seq.{drop-drop}
+use lib.Seq.{take-append-seam, drop-append-seam, drop-drop}
 use lib.Dec.{eqb}
 use Rattle.octets.specs.Lent.{when}
 use Rattle.octets.specs.Tests.{all, partOf}
-use Rattle.octets.specs.Split.{Split, behind, splitIn, splitBy}
+use Rattle.octets.specs.Split.{behind, splitIn, splitBy}
+use Rattle.octets.proofs.Tests.{and-left, and-right}
 
 module _ (size : List ℕ → ℕ) (within : (s : List ℕ) → size s ≤ length s) where
   -- ---- turn by turn
@@ -111,3 +112,16 @@ module _ (size : List ℕ → ℕ) (within : (s : List ℕ) → size s ≤ lengt
     pub split-whole : (s : List ℕ) → all p (splitBy size s .0) ≡ true
     unfolding splitBy
     split-whole s = splitIn-whole (length s) s
+
+  -- parts that tell their size whatever follows them, end to end, are found again, with what is left
+  module _ (p : List ℕ → Bool) (tells : (d rest : List ℕ) → p d ≡ true → (size (d ++ rest) ≡ length d) × (length d ≡ 0 → ⊥)) where
+    pub split-parts : (ds : List (List ℕ)) (left : List ℕ) → all p ds ≡ true → size left ≡ 0 → splitBy size (flatten ds ++ left) ≡ (ds, left)
+    unfolding all flatten
+    split-parts [] left e none = split-stop left none
+    split-parts (d ∷ ds) left e none =
+        let (is, some) = tells d (flatten ds ++ left) (and-left (p d) (all p ds) e) in
+        ap (splitBy size) (append-assoc d (flatten ds) left)
+        ∙ split-turn (d ++ (flatten ds ++ left)) (λ z. some (sym is ∙ z))
+        ∙ ap (λ (n : ℕ). behind (take n (d ++ (flatten ds ++ left))) (splitBy size (drop n (d ++ (flatten ds ++ left))))) is
+        ∙ ap₂ (λ (f l : List ℕ). behind f (splitBy size l)) (take-append-seam d (flatten ds ++ left)) (drop-append-seam d (flatten ds ++ left))
+        ∙ ap (behind d) (split-parts ds left (and-right (p d) (all p ds) e) none)

@@ -4,7 +4,6 @@ use mathlib.Core.Path.{_≡_, refl, sym, ap, _∙_}
 use mathlib.Core.List.{List}
 use Prim.Native.Nat.{ℕ, _+_}
 use native.Mathlib.Omega.{arith}
-use borrow.Author.Tests.{eqb-true}
 use lib.Dec.{eqb}
 use lib.ListN.{length, getD}
 use Rattle.octets.specs.Lent.{when}
@@ -19,7 +18,7 @@ use Rattle.record.specs.Record.{endAt, endIn, nameIn, ivIn}
 use Rattle.record.specs.Read.{headerSays, headerNumber, headerAnswer}
 use Rattle.record.specs.Seal.{sealAnswer}
 use Rattle.record.specs.Open.{plaintextBy, openNumber, openAnswer}
-use Rattle.record.specs.Demand3.{Refuses, OpensExactly, OnePlaintext, OneOpening, ElseRefuses, SealedOpens}
+use Rattle.record.specs.Demand3.{OpensExactly, OnePlaintext, OneOpening, ElseRefuses, SealedOpens}
 use Rattle.record.specs.Laws.{HeaderThere, HeaderBack, EndSum, SealOtherRows, OpenOtherRows, SealBesideKek, OpenBesideKek}
 use Rattle.record.specs.Laws.{HeaderUnique, EndUnique, RecordCheckUnique, SealUnique, RecordOpenUnique}
 use Rattle.record.specs.Laws.{HeaderTestsRise, SealTestsRise, RecordTagTestsRise, OpenTestsRise}

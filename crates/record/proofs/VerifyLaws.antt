@@ -3,16 +3,16 @@
 use mathlib.Core.Path.{_≡_, refl, sym, ap, ap₂, _∙_}
 use mathlib.Core.Bool.{Bool, true, false, not, _||_}
 use mathlib.Core.List.{List, [], _∷_, nil≢cons}
-use mathlib.Core.Option.{Option, some, none}
+use mathlib.Core.Option.{Option, none}
 use Prim.Native.Nat.{ℕ, _≤_}
 use native.Mathlib.Omega.{arith}
 use borrow.Author.Tests.{le-ltb}
 use lib.Dec.{eqb, ltb}
 use lib.ListN.{length, replicate, length-replicate}
-use Rattle.octets.specs.Lent.{when, kept}
+use Rattle.octets.specs.Lent.{when}
 use Rattle.octets.proofs.Unique.{unique, unique-by}
 use Rattle.keytable.specs.Row.{dataType, Row}
-use Rattle.keytable.specs.Table.{tableOk, dataRow, rowAt}
+use Rattle.keytable.specs.Table.{tableOk, dataRow}
 use Rattle.keytable.specs.Calls.{missing, useIn}
 use Rattle.keytable.specs.Find.{placeOf, foundSays, foundAnswer, rowFound}
 use Rattle.keytable.specs.declared.Found.{Found}
@@ -23,8 +23,7 @@ use Rattle.modes.specs.Modes.{namesMode}
 use Rattle.record.specs.Record.{modeIn, countIn, nameSize, layoutOk, nameIn, ivIn}
 use Rattle.record.specs.Read.{passes}
 use Rattle.record.specs.Seal.{callersMax}
-use Rattle.record.specs.Open.{authenticIn, openNumber, openAnswer, verifyAnswer, rowLooked, openedNumber, openedAt, openingSays}
-use Rattle.record.specs.Demand3.{Opens, Seals}
+use Rattle.record.specs.Open.{authenticIn, openNumber, verifyAnswer, rowLooked, openedNumber, openedAt, openingSays}
 use Rattle.record.specs.Laws.{VerifyAsOpening, SomeSeals, VerifyExactly, SomeOpens, VerifyOpens, VerifyNotFive, OpenedVerifies, OpenedByRow, OpenedPlaced, VerifyOtherRows, VerifyBesideKek}
 use Rattle.record.specs.Laws.{RecordVerifyUnique, OpenedByUnique}
 use Rattle.record.specs.declared.opening.Opening.{Opening}

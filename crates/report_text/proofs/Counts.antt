@@ -4,7 +4,7 @@ use mathlib.Core.Path.{_≡_, refl, sym, ap, _∙_}
 use mathlib.Core.Bool.{Bool, true, false}
 use mathlib.Core.List.{List, [], _∷_}
 use mathlib.Core.Option.{some}
-use Prim.Native.Nat.{ℕ, _+_, _-_, _*_, _/_, _≤_, _<_}
+use Prim.Native.Nat.{ℕ, _+_, _≤_, _<_}
 use native.Mathlib.Nat.{add-zero}
 use native.Mathlib.Omega.{arith}
 use lib.Dec.{eqb}
@@ -16,7 +16,7 @@ use Rattle.octets.specs.Split.{Split, behind, splitBy}
 use Rattle.octets.specs.Tests.{partOf}
 use Rattle.octets.proofs.Split.{place-turn, place-stop}
 use Rattle.octets.proofs.Tests.{every-at, length-part}
-use Rattle.keytable.specs.Row.{dataType, Row}
+use Rattle.keytable.specs.Row.{dataType}
 use Rattle.keytable.specs.Table.{rowMax, numberOfPlace, rowsOf, rowNumber, rowCount, headOk, headTests, tableOk, rowAt}
 use Rattle.keytable.specs.Laws.{Numbered}
 use Rattle.keytable.specs.Calls.{tableSays, tableAnswer}
@@ -26,9 +26,9 @@ use Rattle.keytable.proofs.Accepted.{accepted-head}
 use Rattle.keytable.proofs.Calls.{rows-accepted}
 use Rattle.keytable.proofs.Laws.{found-numbered, row-at-number}
 use Rattle.record.specs.Record.{nameIn}
-use Rattle.record.specs.Open.{verifyAnswer, openedAt}
+use Rattle.record.specs.Open.{openedAt}
 use Rattle.record.proofs.VerifyLaws.{opened-verifies, opened-found, opened-by-row, opened-placed}
-use Rattle.report_text.specs.Dump.{dumpMax, recordSize, recordsIn, tailOf}
+use Rattle.report_text.specs.Dump.{dumpMax, recordSize, recordsIn}
 use Rattle.report_text.specs.Opens.{opensWith, opensBy}
 use Rattle.report_text.specs.Report.{recordBytes}
 use Rattle.report_text.specs.Counted.{Countable, CountsOne, CountsAll}

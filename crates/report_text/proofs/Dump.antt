@@ -7,13 +7,12 @@ use Prim.Native.Nat.{ℕ, _+_, _*_, _≤_, _<_}
 use native.Mathlib.Omega.{arith}
 use borrow.Author.Tests.{leb-true, eqb-true, lt-leb, le-leb, eq-eqb, ne-eqb, not-false}
 use lib.Dec.{eqb, leb}
-use lib.ListN.{length, getD, take, drop, length-append, length-drop}
-use lib.Seq.{length-take-le}
-use Rattle.octets.specs.Lent.{when}
-use Rattle.octets.specs.Split.{behind, splitBy}
+use lib.ListN.{length, getD, take, length-append, List·getD-append}
+use lib.Seq.{take-append-seam}
+use Rattle.octets.specs.Split.{Split, splitBy}
 use Rattle.octets.specs.Tests.{all, partOf}
 use Rattle.octets.proofs.Lent.{none-applies}
-use Rattle.octets.proofs.Tests.{and-left, and-right, all-at, part-rest}
+use Rattle.octets.proofs.Tests.{and-left, and-right, all-at}
 use Rattle.octets.proofs.Split as o
 use Rattle.record.specs.Record.{nameAt, modeIn, countIn, nameSize, endIn, layoutOk}
 use Rattle.record.specs.Read.{headerTests, headerNumber}
@@ -21,7 +20,7 @@ use Rattle.record.proofs.Laws.{end-sum}
 use Rattle.record.proofs.Parts.{layout-kept}
 use Rattle.report_text.specs.Dump.{readable, recordSize, recordsIn, tailOf}
 use Rattle.report_text.specs.Report.{recordBytes}
-use Rattle.report_text.specs.Laws.{RecordsThenTail, IsRecord, RecordByLayout, TailUnreadable, ShortUnreadable, PastUnreadable, LengthsAddUp}
+use Rattle.report_text.specs.Laws.{RecordsThenTail, IsRecord, RecordByLayout, Reads, Stands, DumpExactly, TailUnreadable, ShortUnreadable, PastUnreadable, LengthsAddUp}
 
 -- ---- a record's own end
 
@@ -128,6 +127,55 @@ past-unreadable = unreadable-past
 
 pub short-unreadable : ShortUnreadable
 short-unreadable d h = unreadable-past d (let sum = end-is d in omega (arith, h, sum))
+
+-- what follows a record does not change its own end
+end-kept : (r t : List ℕ) → nameAt ≤ length r → endIn (r ++ t) ≡ endIn r
+end-kept r t h =
+    rw (
+      List·getD-append r t 0 2 (omega arith),
+      List·getD-append r t 0 4 (omega arith),
+      List·getD-append r t 0 5 (omega arith),
+      List·getD-append r t 0 6 (omega arith),
+      List·getD-append r t 0 7 (omega arith),
+      List·getD-append r t 0 10 (omega arith),
+      List·getD-append r t 0 11 (omega arith),
+    )
+
+record-told : (r t : List ℕ) → eqb (headerNumber r) 0 ≡ true → (recordSize (r ++ t) ≡ length r) × (length r ≡ 0 → ⊥)
+record-told r t e = (
+  size-read (r ++ t) (readable-accepted (r ++ t) (omega (arith, end-here, length-append r t)) (ap headerNumber first ∙ is .accepted)) ∙ end-here,
+  λ z. omega (arith, z, is .long),
+)
+  where
+    is : IsRecord r
+    is = is-record r (eqb-true (headerNumber r) 0 e)
+
+    end-here : endIn (r ++ t) ≡ length r
+    end-here = end-kept r t (omega (arith, is .long)) ∙ sym (is .layout-long)
+
+    first : take (endIn (r ++ t)) (r ++ t) ≡ r
+    first = ap (λ (n : ℕ). take n (r ++ t)) end-here ∙ take-append-seam r t
+
+pub dump-exactly : DumpExactly
+dump-exactly d rs tail = (to, from)
+  where
+    accepts : List ℕ → Bool
+    accepts r = eqb (headerNumber r) 0
+
+    to : Reads d rs tail → Stands d rs tail
+    to h = record {
+      accepted = rw (← h .records-are) (o.split-whole recordSize size-within accepts first-accepted d);
+      unreadable = rw (← h .tail-is) (tail-unreadable d);
+      end-to-end = rw (← h .records-are, ← h .tail-is) (records-then-tail d);
+    }
+
+    from : Stands d rs tail → Reads d rs tail
+    from h =
+        let cut : splitBy recordSize d ≡ (rs, tail) =
+        ap (splitBy recordSize) (sym (h .end-to-end))
+        ∙ o.split-parts recordSize size-within accepts record-told rs tail (h .accepted) (size-stop tail (h .unreadable))
+        in
+        record { records-are = ap (λ (p : Split). p .0) cut; tail-is = ap (λ (p : Split). p .1) cut }
 
 length-flatten : (rs : List (List ℕ)) → length (flatten rs) ≡ recordBytes rs
 unfolding flatten recordBytes

@@ -6,9 +6,9 @@ use mathlib.Core.List.{List, [], _∷_, _++_, append-assoc}
 use Prim.Native.Nat.{ℕ, _+_, _-_, _*_, _≤_}
 use native.Mathlib.Omega.{arith}
 use lib.Dec.{eqb, ltb, lit<}
-use lib.ListN.{length, take, drop, replicate, length-append, length-replicate}
+use lib.ListN.{length, replicate, length-append, length-replicate}
 use borrow.Author.Tests.{lt-ltb, le-ltb, ltb-false}
-use Rattle.octets.specs.Lent.{when, lowest, over}
+use Rattle.octets.specs.Lent.{when, lowest}
 use Rattle.octets.specs.Split.{splitBy}
 use Rattle.octets.specs.Tests.{all, partOf}
 use Rattle.octets.proofs.Lent.{length-over}
@@ -17,16 +17,14 @@ use Rattle.octets.proofs.Unique.{unique-by}
 use Rattle.wording.specs.Ascii.{ascii}
 use Rattle.wording.specs.Decimal.{digitsWithin, decimal, valueOf}
 use Rattle.wording.specs.Hex.{digitsOf, hexRead}
-use Rattle.wording.specs.Lines.{space, newline, line, refusedLine}
+use Rattle.wording.specs.Lines.{line, refusedLine}
 use Rattle.wording.proofs.Digits.{length-digitsOf}
 use Rattle.wording.proofs.Laws.{there-and-back, line-reads}
 use Rattle.wording.proofs.Wrote.{length-line64}
-use Rattle.keytable.specs.Row.{rowOk}
 use Rattle.keytable.specs.Table.{headOk, rows, rowParts, distinct, tableOk}
-use Rattle.report_text.specs.Dump.{dumpMax, recordsIn, tailOf}
-use Rattle.report_text.specs.Report.{recordBytes, openLine, openLines, reportNumber, reportText, printed, reportRoom, reportedAs, reported}
-use Rattle.report_text.specs.Laws.{EmptyReport, TableRefused, DumpRefused, DumpTaken, OpenLineReads, reportedSays, ReportedFits, ReportFits, ReportUnique, ReportTestsRise}
-use Rattle.report_text.specs.declared.Reported.{Reported}
+use Rattle.report_text.specs.Dump.{dumpMax}
+use Rattle.report_text.specs.Report.{recordBytes, openLine, openLines, reportNumber, reportText, printed, reportRoom, reported}
+use Rattle.report_text.specs.Laws.{EmptyReport, TableRefused, DumpRefused, DumpTaken, OpenLineReads, reportedSays, ReportFits, ReportUnique, ReportTestsRise}
 use Rattle.report_text.proofs.Texts.{text-short}
 
 -- ---- the text

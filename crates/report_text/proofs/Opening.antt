@@ -1,18 +1,18 @@
 -- Which row a record opens by: exactly the one of its name by which verification gives 0, and so one row at most.
 -- Assumes nothing.
-use mathlib.Core.Path.{_≡_, refl, sym, ap, ap₂, _∙_}
-use mathlib.Core.Bool.{Bool, true, false, false≢true, _&&_}
+use mathlib.Core.Path.{_≡_, refl, sym, ap₂, _∙_}
+use mathlib.Core.Bool.{Bool, true, false, false≢true}
 use mathlib.Core.List.{List, [], _∷_}
 use mathlib.Core.Option.{some}
-use Prim.Native.Nat.{ℕ, _+_, _≤_, _<_}
+use Prim.Native.Nat.{ℕ, _+_, _≤_}
 use native.Mathlib.Omega.{arith}
-use borrow.Author.Tests.{eqb-true, eq-eqb}
+use borrow.Author.Tests.{eqb-true}
 use lib.Dec.{eqb}
 use lib.ListN.{length}
 use Rattle.octets.specs.Lent.{when}
 use Rattle.octets.proofs.Tests.{and-left, and-right}
 use Rattle.keytable.specs.Row.{dataType, isKekType, Row, matches}
-use Rattle.keytable.specs.Table.{rowsOf, rowNumber, rowCount, tableOk, rowFor, dataRow}
+use Rattle.keytable.specs.Table.{rowsOf, rowNumber, tableOk, rowFor, dataRow}
 use Rattle.keytable.proofs.Laws.{own-row, rowFor-good, kek-by-type, one-row}
 use Rattle.keytable.proofs.Lookup.{matches-both, unmatched, lookup-one}
 use Rattle.record.specs.Record.{countIn, nameIn}

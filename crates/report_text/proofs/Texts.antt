@@ -1,32 +1,30 @@
 -- The report's text as the code writes it: a row's line in three pieces, the lines of all rows one after the other, and that every report fits its room.
 -- Assumes nothing.
 use mathlib.Core.Path.{_≡_, refl, sym, ap, ap₂, _∙_}
-use mathlib.Core.Bool.{Bool, true, false}
+use mathlib.Core.Bool.{true, false}
 use mathlib.Core.List.{List, [], _∷_, _++_, append-assoc}
-use Prim.Native.Nat.{ℕ, zero, suc, _+_, _-_, _*_, _^_, _≤_, _<_}
+use Prim.Native.Nat.{ℕ, suc, _+_, _-_, _*_, _^_, _≤_, _<_}
 use native.Mathlib.Nat.{add-zero, zero-add}
 use native.Mathlib.Numerals.{add-one}
 use native.Mathlib.Omega.{arith}
 use lib.ListN.{length, getD, drop, replicate, length-append, length-replicate, drop-of-length-le}
 use lib.Seq.{drop-cons}
 use borrow.Author.Tests.{lt-ltb, le-ltb}
-use Rattle.octets.specs.Lent.{over}
 use Rattle.wording.specs.Ascii.{ascii}
-use Rattle.wording.specs.Decimal.{decimal}
 use Rattle.wording.specs.Hex.{digitsOf}
-use Rattle.wording.specs.Lines.{line, refusedLine, together}
+use Rattle.wording.specs.Lines.{line, refusedLine}
 use Rattle.wording.specs.Writing.{putAt, Wrote, WroteIfFits}
 use Rattle.wording.proofs.Decimal.{length-decimal64}
 use Rattle.wording.proofs.Digits.{length-digitsOf}
 use Rattle.wording.proofs.Wrote.{put-fits, nothing-wrote, put-wrote-if, both-wrote, wrote-front, length-line64}
 use Rattle.keytable.specs.Row.{nameMax, Row}
-use Rattle.keytable.specs.Table.{rowMax, rowPlace, rowsOf, rowNumber, noRow, rowCount, headOk, tableOk, rowAt}
+use Rattle.keytable.specs.Table.{rowPlace, rowsOf, rowNumber, noRow, rowCount, headOk, tableOk, rowAt}
 use Rattle.keytable.proofs.Accepted.{length-rowsOf, rowsOf-more, rowsOf-done}
 use Rattle.keytable.proofs.Laws.{own-row, rowFor-good, row-at-number}
 use Rattle.report_text.specs.Dump.{dumpMax, recordsIn, tailOf}
 use Rattle.report_text.specs.Opens.{opensBy}
 use Rattle.report_text.specs.Report.{recordBytes, openLine, openLines, reportText, reportNumber, printed, reportRoom, reportedAs, reported}
-use Rattle.report_text.specs.Counted.{CountsAll, Reportable, countLines}
+use Rattle.report_text.specs.Counted.{Reportable, countLines}
 use Rattle.report_text.proofs.Dump.{lengths-add-up, records-few}
 use Rattle.report_text.proofs.Opening.{opens-few}
 use Rattle.report_text.proofs.Counts.{rows-few}

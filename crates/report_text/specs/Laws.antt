@@ -3,14 +3,15 @@
 use mathlib.Core.Path.{_≡_}
 use mathlib.Core.Logic.{_↔_}
 use mathlib.Core.Bool.{true, false}
-use mathlib.Core.List.{List, [], _∷_, _++_, flatten}
+use mathlib.Core.List.{List, [], _++_, flatten}
 use mathlib.Core.Option.{some}
 use Prim.Native.Nat.{ℕ, _+_, _-_, _*_, _≤_, _<_}
+use lib.Dec.{eqb}
 use lib.ListN.{length, getD}
 use Rattle.octets.specs.Bytes.{Bytes}
 use Rattle.octets.specs.Lent.{over}
 use Rattle.octets.specs.Lowest.{rises}
-use Rattle.octets.specs.Tests.{partOf}
+use Rattle.octets.specs.Tests.{all, partOf}
 use Rattle.octets.specs.Unique.{UniqueBy}
 use Rattle.wording.specs.Ascii.{ascii}
 use Rattle.wording.specs.Decimal.{valueOf}
@@ -41,6 +42,19 @@ pub record IsRecord (r : List ℕ) : Type 0 where
 
 abbrev pub RecordByLayout : Type 0
 RecordByLayout = (d : List ℕ) (i : ℕ) → i < length (recordsIn d) → IsRecord (getD (recordsIn d) i [])
+
+-- these are all: accepted records end to end, and then bytes at which none can be read, are the records and the tail of what they make, and of no other dump
+pub record Reads (d : List ℕ) (rs : List (List ℕ)) (tail : List ℕ) : Type 0 where
+  pub records-are : recordsIn d ≡ rs
+  pub tail-is : tailOf d ≡ tail
+
+pub record Stands (d : List ℕ) (rs : List (List ℕ)) (tail : List ℕ) : Type 0 where
+  pub accepted : all (λ (r : List ℕ). eqb (headerNumber r) 0) rs ≡ true
+  pub unreadable : readable tail ≡ false
+  pub end-to-end : flatten rs ++ tail ≡ d
+
+abbrev pub DumpExactly : Type 0
+DumpExactly = (d : List ℕ) (rs : List (List ℕ)) (tail : List ℕ) → Reads d rs tail ↔ Stands d rs tail
 
 -- at the tail's start none can be read: nor where less than a header is left, or less than the header says
 abbrev pub TailUnreadable : Type 0

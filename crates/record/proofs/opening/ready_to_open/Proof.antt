@@ -8,7 +8,7 @@ use mathlib.Core.Option.{some}
 use Prim.Native.Nat.{ℕ}
 use native.Mathlib.Omega.{arith}
 use borrow.Author.Needs.{needs}
-use borrow.Author.Tests.{lt-ltb, le-ltb, eq-eqb, ne-eqb}
+use borrow.Author.Tests.{lt-ltb, le-ltb, ne-eqb}
 use lib.Dec.{eqb, ltb}
 use lib.ListN.{length}
 use types.Run.{OneOf}
@@ -19,7 +19,7 @@ use Rattle.keytable.specs.Table.{rowAt}
 use Rattle.keytable.specs.Find.{foundSays, placeOf, foundAnswer, rowFound}
 use Rattle.keytable.proofs.Places.{says-same}
 use Rattle.keytable.proofs.RowFound.{not-found}
-use Rattle.record.specs.Record.{nameAt, modeIn, countIn, nameSize, nameIn}
+use Rattle.record.specs.Record.{nameAt, countIn, nameSize, nameIn}
 use Rattle.record.specs.Read.{headerSays, headerAnswer}
 use Rattle.record.specs.Seal.{callersMax}
 use Rattle.record.specs.Open.{rowLooked}
