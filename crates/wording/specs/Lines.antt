@@ -16,7 +16,7 @@ newline = code "\n"
 abbrev pub line : List ℕ → ℕ → List ℕ
 line word n = word ++ space ∷ (decimal n ++ newline ∷ [])
 
--- "`refused` and the number" (document 01, "The page lister"; document 02, No. 1)
+-- "`refused` and the number" (document 01, "The page lister"); a report's refusals are said so too
 abbrev pub refusedLine : ℕ → List ℕ
 refusedLine n = line (ascii "refused") n
 
