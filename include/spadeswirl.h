@@ -140,6 +140,18 @@ enum {
     SPADESWIRL_FIELDS
 };
 
+/* The first of them, up to KEY FORMAT, are what a page is written from; KEY LENGTH and the count follow from what else it is written from. */
+#define SPADESWIRL_FIELDS_CHOSEN SPADESWIRL_FIELD_KEY_LENGTH
+
+/* The places of what is stored of a page's parts, and their count. */
+enum {
+    SPADESWIRL_PART_LIST,              /* where its descriptor list begins */
+    SPADESWIRL_PART_KEK_TYPE,
+    SPADESWIRL_PART_IDENTIFIER,        /* where the identifier begins */
+    SPADESWIRL_PART_WRAPPED,           /* where it ends and the wrapped key begins */
+    SPADESWIRL_PARTS
+};
+
 /*
  * AES-256 (FIPS 197): encrypts or decrypts one block in place. Numbers: 0; 2
  * for another length of key or block.
@@ -361,6 +373,51 @@ uint8_t spadeswirl_page_load(const uint8_t *table, size_t table_len,
                              const uint8_t *page, size_t page_len,
                              uint8_t *out, size_t out_len,
                              uint64_t fields[SPADESWIRL_FIELDS]);
+
+/*
+ * Stores where the parts of a page are: its descriptor list begins at
+ * at[SPADESWIRL_PART_LIST] and goes to the page's end, and the KEY part is from
+ * SPADESWIRL_PAGE_HEADER_BYTES to there. Of format SPADESWIRL_FORMAT_WRAPPED it
+ * stores the KEK type, and where the identifier begins and ends; the wrapped key
+ * follows it, to the KEY part's end. Of any other format these three are 0.
+ * Numbers: those of spadeswirl_page_read.
+ */
+uint8_t spadeswirl_page_parts(const uint8_t *page, size_t page_len,
+                              uint64_t at[SPADESWIRL_PARTS]);
+
+/*
+ * Writes a key page: of its first fields, as spadeswirl_page_read stores them,
+ * of a KEY part as it stands, and of descriptors end to end. Fills the first *n
+ * bytes of the output, SPADESWIRL_PAGE_HEADER_BYTES and what both have, and
+ * stores n.
+ * No table is looked at, and a wrapped key is carried as it is. Numbers: 0; 2
+ * for a KEY part or a list that breaks its layout; 3 for a field, a format or a
+ * KEK type that is not permitted, or a field that is too wide for its bits; 4
+ * for a page of over SPADESWIRL_PAGE_MAX, or a long reference or identifier; 5;
+ * 8 for a wrapped key that has not SPADESWIRL_WRAPPED_BYTES. What this call
+ * writes spadeswirl_page_read reads with 0, and it stores the same fields.
+ */
+uint8_t spadeswirl_page_write(const uint64_t fields[SPADESWIRL_FIELDS_CHOSEN],
+                              const uint8_t *key_part, size_t key_part_len,
+                              const uint8_t *list, size_t list_len,
+                              uint8_t *out, size_t out_len, uint64_t *n);
+
+/*
+ * Wraps a key by the row of that KEK type and exactly that identifier, and
+ * writes its page: what spadeswirl_page_write writes of the KEY part that is so
+ * made. With the same table spadeswirl_page_load gives the key back. Numbers: 0;
+ * 1; 2 for a key that has not SPADESWIRL_KEY_BYTES, an empty identifier or a
+ * list that breaks its layout; 3 for a KEY FORMAT other than
+ * SPADESWIRL_FORMAT_WRAPPED, a type that no key-encrypting key has, and else as
+ * for spadeswirl_page_write; 4; 5; 6.
+ */
+uint8_t spadeswirl_page_write_wrapped(const uint8_t *table, size_t table_len,
+                                      const uint64_t fields[SPADESWIRL_FIELDS_CHOSEN],
+                                      uint16_t type,
+                                      const uint8_t *identifier, size_t identifier_len,
+                                      const uint8_t *key, size_t key_len,
+                                      const uint8_t *list, size_t list_len,
+                                      uint8_t *out, size_t out_len, uint64_t *n);
 
 #ifdef __cplusplus
 }

@@ -41,6 +41,12 @@ static uint8_t list_step(void) { return spadeswirl_list_step(S(0), FLAG(0), FLAG
 static uint8_t label_check(void) { return spadeswirl_label_check(S(0), STORED); }
 static uint8_t page_read(void) { return spadeswirl_page_read(S(0), STORED); }
 static uint8_t page_load(void) { return spadeswirl_page_load(S(0), S(1), OUT, STORED); }
+static uint8_t page_parts(void) { return spadeswirl_page_parts(S(0), STORED); }
+static uint8_t page_write(void) { return spadeswirl_page_write(CHOSEN, S(0), S(1), OUT, STORED); }
+static uint8_t page_write_wrapped(void)
+{
+    return spadeswirl_page_write_wrapped(S(0), CHOSEN, sixteen_bits(numbers[SPADESWIRL_FIELDS_CHOSEN]), S(1), S(2), S(3), OUT, STORED);
+}
 static uint8_t session_start(void) { return spadeswirl_session_start(LIFE, (uint32_t)numbers[0], numbers[1]); }
 static uint8_t session_issue(void) { return spadeswirl_session_issue(LIFE, OUT); }
 static uint8_t seal_next(void) { return spadeswirl_seal_next(LIFE, S(0), S(1), S(2), S(3), OUT); }
@@ -58,6 +64,9 @@ static const struct call calls[] = {
     { "list_check", 1, 1, NOTHING, 1, list_check }, { "list_check_as", 1, 2, NOTHING, 1, list_check_as },
     { "list_step", 1, 3, NOTHING, 2, list_step }, { "label_check", 1, 0, NOTHING, 1, label_check },
     { "page_read", 1, 0, NOTHING, 14, page_read }, { "page_load", 2, 0, OUTPUT, 14, page_load },
+    { "page_parts", 1, 0, NOTHING, SPADESWIRL_PARTS, page_parts },
+    { "page_write", 2, SPADESWIRL_FIELDS_CHOSEN, OUTPUT, 1, page_write },
+    { "page_write_wrapped", 4, SPADESWIRL_FIELDS_CHOSEN + 1, OUTPUT, 1, page_write_wrapped },
     { "session_start", 0, 2, SESSION, 0, session_start }, { "session_issue", 0, 3, OUTPUT | SESSION, 0, session_issue },
     { "seal_next", 4, 3, OUTPUT | SESSION, 0, seal_next },
 };

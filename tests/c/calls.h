@@ -4,8 +4,8 @@
  * is after the call. An output is lent full of A5h, with as many bytes as the line's last word says; so is each number
  * that a call stores, and a session to be started. A line of a call with an output and a session ends with a session's
  * whole life: prefix, start, the spent byte that is set after the start, and rooms with commas between. The start is
- * answered as NAME.start, then each call by a line. A call that changes a string it only reads, or a byte before what it
- * is lent, is answered by a line that says so; one that reads or writes past the end of anything ends the program.
+ * answered as NAME.start, then each call by a line. A call that changes a string or fields it only reads, or a byte before
+ * what it is lent, is answered by a line that says so; one that reads or writes past the end of anything ends the program.
  */
 #ifndef CALLS_H
 #define CALLS_H
@@ -14,9 +14,10 @@
 #include "cases.h"
 #include "spadeswirl.h"
 
-/* At most so many strings and numbers are given. */
+/* At most so many strings and numbers are given, and at most so many words stand in a line. */
 #define STRINGS 8
-#define NUMBERS 4
+#define NUMBERS (SPADESWIRL_FIELDS_CHOSEN + 1)
+#define WORDS 24
 
 /* What a call shows, each or none: the output it was lent, the block it changed, the session. */
 enum { NOTHING = 0, OUTPUT = 1, BLOCK = 2, SESSION = 4 };
@@ -32,7 +33,7 @@ struct lent {
     size_t len;
 };
 
-static struct lent strings[STRINGS], out, stored, life;
+static struct lent strings[STRINGS], chosen, out, stored, life;
 static uint64_t numbers[NUMBERS];
 static int nulls;
 
@@ -87,6 +88,14 @@ static inline void take(char *word, int i)
     memcpy(s->copy, s->at, s->len);
 }
 
+/* The fields that a page is written from are the first numbers of its line, lent as a piece that is only read. */
+static inline void take_fields(void)
+{
+    lend(&chosen, sizeof(uint64_t) * SPADESWIRL_FIELDS_CHOSEN);
+    memcpy(chosen.at, numbers, chosen.len);
+    memcpy(chosen.copy, chosen.at, chosen.len);
+}
+
 static inline void show(const uint8_t *bytes, size_t n)
 {
     fputs(n == 0 ? " -" : " ", stdout);
@@ -108,6 +117,7 @@ static inline uint64_t number_at(char *word, char **rest)
 /* Something empty is a null pointer in every other line, and else points past what may be touched. */
 #define LENT(piece) (piece).len || !nulls ? (piece).at : NULL, (piece).len
 #define S(i) LENT(strings[i])
+#define CHOSEN (const uint64_t *)chosen.at
 #define OUT LENT(out)
 #define STORED (uint64_t *)stored.at
 #define LIFE (struct spadeswirl_session *)life.at
@@ -144,6 +154,7 @@ static inline void answer(const char *name, const struct call *call, size_t room
         printf(" %016llx", (unsigned long long)(STORED)[i]);
     for (int i = 0; i < call->strings; i++)
         show_harm(&strings[i], i != 1 || !(call->shows & BLOCK), "string", i);
+    show_harm(&chosen, 1, "fields", 0);
     show_harm(&out, 0, "output", 0);
     show_harm(&stored, 0, "number", 0);
     show_harm(&life, 0, "session", 0);
@@ -158,6 +169,7 @@ static inline void answers(const char *name, const struct call *call, char **wor
         take(words[i], i);
     for (int i = 0; i < call->numbers; i++)
         numbers[i] = number_at(words[call->strings + i], &rest);
+    take_fields();
     lend(&life, sizeof(struct spadeswirl_session));
     if (call->shows & OUTPUT && call->shows & SESSION)
         begin(name);
@@ -178,11 +190,11 @@ static inline int answer_lines(const struct call *calls, size_t known, void (*be
     size_t room = 0;
     ssize_t n;
     while ((n = getline(&line, &room, stdin)) > 0) {
-        char *words[16];
+        char *words[WORDS];
         int count = 0;
         const struct call *call = NULL;
         line[strcspn(line, "\n")] = '\0';
-        for (char *w = strtok(line, " "); w && count < 16; w = strtok(NULL, " "))
+        for (char *w = strtok(line, " "); w && count < WORDS; w = strtok(NULL, " "))
             words[count++] = w;
         if (count == 0 || words[0][0] == '#')
             continue;

@@ -192,6 +192,36 @@ static void pages(void)
          && label(SPADESWIRL_LABEL_MAX + 1, &count) == SPADESWIRL_OVER_MAXIMUM);
 }
 
+/* A page whose wrapped key is carried, and one whose key is wrapped by a row of that type: both read as they were written. */
+static void written(void)
+{
+    static const uint64_t chosen[SPADESWIRL_FIELDS_CHOSEN] = {
+        [SPADESWIRL_FIELD_SCOPE] = 2, [SPADESWIRL_FIELD_RDMC] = 3, [SPADESWIRL_FIELD_CKORL] = 1, [SPADESWIRL_FIELD_ENCRYPTION_MODE] = 2,
+        [SPADESWIRL_FIELD_ALGORITHM_INDEX] = SPADESWIRL_CCM, [SPADESWIRL_FIELD_KEY_FORMAT] = SPADESWIRL_FORMAT_WRAPPED
+    };
+    static const uint8_t part[4 + 3 + WRAPPED] = { 0, SPADESWIRL_KEK_ASSIGNED, 0, 3, 'A', 'B', 'C' }, list[] = { 0xc0, 0, 0, 1, 9 };
+    uint64_t at[SPADESWIRL_PARTS + 1] = { [SPADESWIRL_PARTS] = 99 }, n = 0, other[SPADESWIRL_FIELDS_CHOSEN];
+    uint8_t name[NAME] = { 2 };
+    size_t wrapped_len = SPADESWIRL_PAGE_HEADER_BYTES + 4 + NAME + WRAPPED + sizeof list;
+    says("FIELDS_CHOSEN", SPADESWIRL_FIELDS_CHOSEN == 12 && spadeswirl_page_write(chosen, LENT(part), LENT(list), LENT(out), &n) == SPADESWIRL_DONE
+         && n == SPADESWIRL_PAGE_HEADER_BYTES + sizeof part + sizeof list && spadeswirl_page_read(out, n, fields) == SPADESWIRL_DONE
+         && memcmp(fields, chosen, sizeof chosen) == 0 && fields[SPADESWIRL_FIELDS_CHOSEN] == sizeof part);
+    says("PARTS", SPADESWIRL_PARTS == 4 && spadeswirl_page_parts(out, n, at) == SPADESWIRL_DONE && at[SPADESWIRL_PARTS] == 99);
+    says("PART_LIST", memcmp(out + at[SPADESWIRL_PART_LIST], list, sizeof list) == 0 && at[SPADESWIRL_PART_LIST] + sizeof list == n);
+    says("PART_KEK_TYPE", at[SPADESWIRL_PART_KEK_TYPE] == SPADESWIRL_KEK_ASSIGNED);
+    says("PART_IDENTIFIER", memcmp(out + at[SPADESWIRL_PART_IDENTIFIER], "ABC", 3) == 0);
+    says("PART_WRAPPED", at[SPADESWIRL_PART_IDENTIFIER] + 3 == at[SPADESWIRL_PART_WRAPPED] && at[SPADESWIRL_PART_WRAPPED] + WRAPPED == at[SPADESWIRL_PART_LIST]);
+    says("BAD_WRAPPED_LENGTH of a page", spadeswirl_page_write(chosen, part, sizeof part - 1, NULL, 0, LENT(out), &n) == SPADESWIRL_BAD_WRAPPED_LENGTH);
+    says("KEK_DS_SAI of a page that is written", spadeswirl_page_write_wrapped(table, rows(6), chosen, SPADESWIRL_KEK_DS_SAI, LENT(name), zeros, K, LENT(list),
+         LENT(out), &n) == SPADESWIRL_DONE && n == wrapped_len && spadeswirl_page_load(table, rows(6), out, n, out + n, K, fields) == SPADESWIRL_DONE);
+    says("NO_ROW of a page that is written", spadeswirl_page_write_wrapped(table, rows(6), chosen, SPADESWIRL_KEK_ASSIGNED, LENT(name), zeros, K, LENT(list),
+         LENT(out), &n) == SPADESWIRL_NO_ROW);
+    memcpy(other, chosen, sizeof other);
+    other[SPADESWIRL_FIELD_KEY_FORMAT] = SPADESWIRL_FORMAT_KEY;
+    says("NOT_PERMITTED of a format", spadeswirl_page_write_wrapped(table, rows(6), other, SPADESWIRL_KEK_DS_SAI, LENT(name), zeros, K, LENT(list), LENT(out), &n)
+         == SPADESWIRL_NOT_PERMITTED && spadeswirl_page_write(other, zeros, K, NULL, 0, LENT(out), &n) == SPADESWIRL_DONE);
+}
+
 static void sessions(void)
 {
     struct spadeswirl_session session;
@@ -207,6 +237,7 @@ int main(void)
     ciphers();
     tables();
     pages();
+    written();
     sessions();
     return 0;
 }

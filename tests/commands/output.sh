@@ -1,5 +1,5 @@
 # shellcheck shell=bash disable=SC2034,SC2086,SC2154
-# Sourced by tests/console: -o FILE of seal and open, which is written only after success.
+# Sourced by tests/console: -o FILE of seal, open, write-page and wrap-page, which is written only after success.
 
 mkdir "$room/there"
 file=$room/there/file
@@ -37,3 +37,21 @@ spadeswirl seal -o "$file" "$room/full" $last $iv "$room/plain" "$room/data" </d
 leaves "-o, the largest record" 0 "$room/largest"
 spadeswirl open -o "$file" "$room/full" "$file" "$room/data" </dev/null
 leaves "-o, over the record that is opened" 0 "$room/plain"
+
+spadeswirl write-page "$room/part" /dev/null $wrapped -o "$file" </dev/null
+leaves "-o, a page" 0 examples/pages/wrapped.bin
+for words in "write-page $room/part /dev/null ${wrapped/scope=2/scope=3}" "write-page $room/part $room/reserved.list $wrapped" "write-page $room/part $room/list70000 $wrapped" \
+    "write-page $room/carried /dev/null format=1 algorithm=1" "wrap-page $room/broken 1 $kek $room/key /dev/null $wrapped" "wrap-page $table 2 $kek $room/key /dev/null $wrapped" \
+    "wrap-page $table 1 $kek $plain /dev/null $wrapped" "wrap-page $table 3 $kek $room/key /dev/null $wrapped"; do
+    spadeswirl $words -o "$file" </dev/null
+    leaves "-o, refused: ${words%% *}, $(cat "$room/said")" 1 examples/pages/wrapped.bin
+done
+for words in "write-page $room/part" "write-page $room/none /dev/null $wrapped" "write-page $room/part /dev/null colour=1" "wrap-page $table 1 $kek $room/key" \
+    "wrap-page $table one $kek $room/key /dev/null $wrapped" "wrap-page $table 1 $kek $room/none /dev/null $wrapped"; do
+    spadeswirl $words -o "$file" </dev/null
+    leaves "-o, misused: $words" 2 examples/pages/wrapped.bin
+done
+spadeswirl wrap-page $table 1 $kek "$room/key" -o "$file" /dev/null $wrapped </dev/null
+leaves "-o among the words of wrap-page" 0 "$room/page"
+spadeswirl write-page -o "$file" "$room/carried" - $wrapped </dev/null
+leaves "-o, over a page, from standard input" 0 "$room/page"

@@ -4,7 +4,7 @@
  */
 #include "model/dumps.h"
 #include "model/lists.h"
-#include "model/pages.h"
+#include "model/written_pages.h"
 
 static struct bytes file(const char *path)
 {
@@ -55,6 +55,29 @@ static size_t put_report(struct bytes table, const struct dump_report *report, c
     return (size_t)(end - text);
 }
 
+/* The fields that words name=value give, in any order: one that is not named is 0, and one of over 64 bits too wide as any other. */
+static void take_fields(char **words, unsigned long long *fields)
+{
+    static const char *const names[CHOSEN_FIELDS] = { "scope", "lock", "ceem", "rdmc", "sdk", "ckod", "ckorp", "ckorl", "encrypt", "decrypt",
+        "algorithm", "format" };
+    memset(fields, 0, CHOSEN_FIELDS * sizeof *fields);
+    for (; *words; words++) {
+        size_t length = strcspn(*words, "="), i = 0;
+        while (i < CHOSEN_FIELDS && (strlen(names[i]) != length || memcmp(names[i], *words, length) != 0))
+            i++;
+        if (i == CHOSEN_FIELDS || (*words)[length] != '=')
+            fail("no such field", *words);
+        fields[i] = strtoull(*words + length + 1, NULL, 10);
+    }
+}
+
+/* A KEK type of more than 16 bits is none, as 0 is none. */
+static unsigned kek_type(const char *word)
+{
+    unsigned long long type = strtoull(word, NULL, 10);
+    return type > 0xffff ? 0 : (unsigned)type;
+}
+
 /* `count` is how many bytes are written: after a refusal none, but for a report's own line. */
 int main(int argc, char **argv)
 {
@@ -100,6 +123,16 @@ int main(int argc, char **argv)
             list.at = key.at + key.len, list.len = page.len - PAGE_HEAD - key.len;
             count = put_list(list, 0, fields[PAGE_FIELDS - 1], (char *)out.at);
         }
+    } else if (strcmp(command, "write-page") == 0 && argc >= 4) {
+        struct bytes w[] = { file(argv[2]), file(argv[3]) };
+        unsigned long long fields[CHOSEN_FIELDS];
+        take_fields(argv + 4, fields);
+        number = page_write(w, fields, out, &count);
+    } else if (strcmp(command, "wrap-page") == 0 && argc >= 7) {
+        struct bytes w[] = { file(argv[2]), from_hex(argv[4]), file(argv[5]), file(argv[6]) };
+        unsigned long long fields[CHOSEN_FIELDS];
+        take_fields(argv + 7, fields);
+        number = page_write_wrapped(w, fields, kek_type(argv[3]), out, &count);
     } else {
         fail("no such command", command);
     }

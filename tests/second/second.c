@@ -8,11 +8,11 @@
 #include "model/lists.h"
 #include "model/modes.h"
 #include "model/next.h"
-#include "model/pages.h"
+#include "model/written_pages.h"
 
 /* The most strings and numbers that a call is given, and the most numbers that one stores. */
 #define STRINGS 8
-#define NUMBERS 4
+#define NUMBERS (CHOSEN_FIELDS + 1)
 #define STORED PAGE_FIELDS
 
 static struct bytes lent(size_t room)
@@ -61,6 +61,9 @@ static int call_list_step(struct asked a) { return list_step(a.w[0], a.n[0] != 0
 static int call_label_check(struct asked a) { return label_check(a.w[0], a.stored); }
 static int call_page_read(struct asked a) { return page_read(a.w[0], a.stored); }
 static int call_page_load(struct asked a) { return page_load(a.w, a.out, a.stored); }
+static int call_page_parts(struct asked a) { return page_parts(a.w[0], a.stored); }
+static int call_page_write(struct asked a) { return page_write(a.w, a.n, a.out, a.stored); }
+static int call_page_write_wrapped(struct asked a) { return page_write_wrapped(a.w, a.n, sixteen_bits(a.n[CHOSEN_FIELDS]), a.out, a.stored); }
 static int call_session_start(struct asked a) { return session_start(a.session, a.n[0], a.n[1]); }
 static int call_session_issue(struct asked a) { return session_issue(a.session, a.out); }
 static int call_seal_next(struct asked a) { return seal_next(a.session, a.w, a.out); }
@@ -96,6 +99,9 @@ static const struct call {
     { "label_check", 1, 0, NOTHING, 1, call_label_check },
     { "page_read", 1, 0, NOTHING, PAGE_FIELDS, call_page_read },
     { "page_load", 2, 0, OUTPUT, PAGE_FIELDS, call_page_load },
+    { "page_parts", 1, 0, NOTHING, PAGE_PARTS, call_page_parts },
+    { "page_write", 2, CHOSEN_FIELDS, OUTPUT, 1, call_page_write },
+    { "page_write_wrapped", 4, CHOSEN_FIELDS + 1, OUTPUT, 1, call_page_write_wrapped },
     { "session_start", 0, 2, SESSION, 0, call_session_start },
     { "session_issue", 0, 3, OUTPUT | SESSION, 0, call_session_issue },
     { "seal_next", 4, 3, OUTPUT | SESSION, 0, call_seal_next },

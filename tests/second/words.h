@@ -9,7 +9,7 @@
 #include <stdlib.h>
 #include <string.h>
 
-#define WORDS 16
+#define WORDS 24
 
 struct bytes {
     unsigned char *at;

@@ -25,3 +25,9 @@ pageRoom = 65540
 
 abbrev pub dumpRoom : ℕ
 dumpRoom = 65537
+
+abbrev pub listRoom : ℕ
+listRoom = 4456653
+
+abbrev pub writtenRoom : ℕ
+writtenRoom = 4096

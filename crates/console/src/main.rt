@@ -1,6 +1,8 @@
-// The unit on a command line: argument 1 is the command, and the others are file names, `-` for standard input, and hexadecimal words.
+// The unit on a command line: argument 1 is the command, and the others are file names, `-` for standard input, and words: hexadecimal digits, a number, and
+// name=value.
 // What a command gives goes to standard output. A refusal is a line `6: no row of that type and name` on standard error, and misuse any other line there:
 // a program has no exit status, so `./spadeswirl` makes one of these.
+mod fields;
 mod labels;
 mod meanings;
 mod opening;
@@ -11,6 +13,8 @@ mod saying;
 mod sealing;
 mod tables;
 mod taking;
+mod wrapping;
+mod writing;
 
 use octets::strings::equal;
 
@@ -29,6 +33,10 @@ fn run(command: &[u8]) {
         labels::label();
     } else if equal(command, b"descriptors") {
         pages::descriptors();
+    } else if equal(command, b"write-page") {
+        writing::write_page();
+    } else if equal(command, b"wrap-page") {
+        wrapping::wrap_page();
     } else if equal(command, b"meaning") {
         meanings::meaning_of();
     } else {

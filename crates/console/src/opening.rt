@@ -4,20 +4,15 @@ use crate::rooms::long_room;
 use crate::rooms::plain_room;
 use crate::rooms::table_room;
 use crate::saying::refuse;
-use crate::saying::write_out;
+use crate::saying::say_filled;
 use crate::taking::take_file;
 use crate::taking::take_optional;
-use octets::strings::part;
 
 fn open_bytes(table: &[u8], record: &[u8], associated: &[u8]) {
     let mut plain = plain_room();
     let mut count = 0;
     let number = record::opening::open(table, record, associated, &mut plain, &mut count);
-    if number != 0 {
-        refuse(number);
-        return;
-    }
-    write_out(part(&plain, 0, count as usize));
+    say_filled(number, &plain, count);
 }
 
 fn verify_bytes(table: &[u8], record: &[u8], associated: &[u8]) {

@@ -16,6 +16,13 @@ pub(crate) fn misuse(what: &[u8]) {
     io::write_all(STDERR_FILENO, b"\n");
 }
 
+// The same, of a word that was given.
+pub(crate) fn misused(what: &[u8], word: &[u8]) {
+    io::write_all(STDERR_FILENO, what);
+    io::write_all(STDERR_FILENO, b": ");
+    misuse(word);
+}
+
 pub(crate) fn cannot_read(path: &[u8]) {
     io::write_all(STDERR_FILENO, b"cannot read ");
     os::fail(path);
@@ -32,6 +39,15 @@ pub(crate) fn write_out(s: &[u8]) {
     if !io::write_all(STDOUT_FILENO, s) {
         os::fail(b"cannot write");
     }
+}
+
+// The front of a room that a call filled, or the number that it was refused with.
+pub(crate) fn say_filled(number: u8, room: &[u8], count: u64) {
+    if number != 0 {
+        refuse(number);
+        return;
+    }
+    write_out(part(room, 0, count as usize));
 }
 
 // The line of a word and a number.

@@ -1,8 +1,10 @@
-// The arguments: files, and words of hexadecimal digits.
+// The arguments: files, words of hexadecimal digits, and a number.
 use crate::saying::cannot_read;
 use crate::saying::misuse;
 use libc::STDIN_FILENO;
 use octets::strings::equal;
+use wording::decimal;
+use wording::decimal::Number;
 use wording::hex;
 ghost use Rattle.io.specs.Counts.{Counts};
 
@@ -80,7 +82,7 @@ fn read_word(word: &[u8], room: &mut [u8]) -> Taken
     ensures { λ r. ⌜ Counts (r .size) (now (room .exit)) ⌝ }
 {
     if hex::read(word, room) != 0 {
-        misuse(b"a name or an IV is two hexadecimal digits for each byte");
+        misuse(b"a name, an IV or an identifier is two hexadecimal digits for each byte");
         return Taken {
             size: 0,
             whole: false,
@@ -103,11 +105,22 @@ pub(crate) fn take_word(i: usize, room: &mut [u8]) -> Taken
         return read_word(&word, room);
     }
     if error != 0 {
-        misuse(b"a name or an IV is missing");
+        misuse(b"a name, an IV or an identifier is missing");
         return Taken {
             size: 0,
             whole: false,
         };
     }
     read_word(&word[..size], room)
+}
+
+// The number that argument i is the decimal digits of; where it is none, that was said on standard error.
+pub(crate) fn take_number(i: usize) -> Number {
+    let mut word = io::buffer();
+    let size = os::arg(i, &mut word);
+    let number = decimal::read(&word[..size]);
+    if let Number::No = number {
+        misuse(b"a type is a number in decimal digits");
+    }
+    number
 }

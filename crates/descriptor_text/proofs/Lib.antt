@@ -1,5 +1,4 @@
 pub mod Written
-pub mod Shown
 pub mod Room
 pub mod Texts
 pub mod Counted

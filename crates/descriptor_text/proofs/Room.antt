@@ -15,7 +15,7 @@ use Rattle.wording.specs.Decimal.{decimal}
 use Rattle.wording.specs.Hex.{digitsOf, digitsShown}
 use Rattle.wording.specs.Lines.{line}
 use Rattle.wording.proofs.Laws.{digits-length}
-use Rattle.wording.proofs.Decimal.{length-decimal64}
+use Rattle.wording.proofs.DecimalDigits.{length-decimal64}
 use Rattle.descriptors.specs.Descriptor.{typeOf, isReserved, isDescriptor}
 use Rattle.descriptors.specs.Labels.{labelMax}
 use Rattle.descriptors.specs.Parse.{split}

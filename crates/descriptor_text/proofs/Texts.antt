@@ -15,19 +15,19 @@ use Rattle.wording.specs.Lines.{line}
 use Rattle.wording.specs.Writing.{putAt, Wrote, WroteIfFits}
 use Rattle.wording.proofs.Wrote.{put-wrote-if, both-wrote, wrote-front}
 use Rattle.descriptors.specs.Labels.{labelMax, listOf, labelStrict, labelNumber, labelAnswer}
-use Rattle.descriptors.specs.Steps.{cursorAtStart, begunOf}
+use Rattle.descriptors.specs.Steps.{cursorAtStart, begunOf, shownBy}
 use Rattle.descriptors.specs.Tested.{listOk, countOf}
 use Rattle.descriptors.specs.Laws.{Accepted}
 use Rattle.descriptors.specs.declared.cursor.Begun.{Begun}
 use Rattle.descriptors.proofs.Answers.{begun-counted, ok-counted}
 use Rattle.descriptors.proofs.Laws.{accepts-exactly, accepts-label}
-use Rattle.keypage.specs.Page.{keyPartAt, keyLength, pageStrict, listIn, fieldsOf}
+use Rattle.keypage.specs.Layout.{keyPartAt}
+use Rattle.keypage.specs.Page.{keyLength, pageStrict, listIn, fieldsOf}
 use Rattle.keypage.specs.Read.{pageReadNumber, pageReadAnswer}
 use Rattle.keypage.proofs.Laws.{reads-exactly}
 use Rattle.descriptor_text.specs.Lines.{descriptorLines, listText}
-use Rattle.descriptor_text.specs.Shown.{shownBy}
 use Rattle.descriptor_text.specs.Described.{describedRoom, describedAs, labelDescribed, pageDescribed}
-use Rattle.descriptor_text.proofs.Shown.{shown-all}
+use Rattle.descriptors.proofs.Shown.{shows-all}
 use Rattle.descriptor_text.proofs.Room.{text-length}
 
 -- ---- the count's line, and the lines of as many steps after it
@@ -40,7 +40,7 @@ module _ (label strict : Bool) (s : List ℕ) (b : Begun) (begun : b ≡ begunOf
   unfolding listText
   whole-text =
       ap (λ (x : Begun). line (ascii "descriptors") (x .count) ++ descriptorLines (shownBy (x .count) s (x .place))) counted
-      ∙ ap (λ (ds : List (List ℕ)). line (ascii "descriptors") (countOf label s) ++ descriptorLines ds) (shown-all label strict s ok)
+      ∙ ap (λ (ds : List (List ℕ)). line (ascii "descriptors") (countOf label s) ++ descriptorLines ds) (shows-all label strict s ok)
 
   pub list-wrote : (room : List ℕ) {m e : ℕ} {between final : List ℕ} → length s ≤ labelMax → describedRoom ≤ length room
       → putAt 0 (line (ascii "descriptors") (b .count)) room ≡ (m, between)

@@ -14,7 +14,8 @@ use Rattle.wording.specs.Writing.{putAt, WroteIfFits}
 use Rattle.wording.proofs.Wrote.{done, puts, puts-wrote, nothing-wrote, both-wrote}
 use Rattle.descriptors.specs.declared.cursor.Cursor.{Cursor}
 use Rattle.descriptor_text.specs.Lines.{descriptorLine, descriptorLines}
-use Rattle.descriptor_text.specs.Shown.{StepWrote, shownBy}
+use Rattle.descriptors.specs.Steps.{shownBy}
+use Rattle.descriptor_text.specs.Shown.{StepWrote}
 
 -- ---- the pieces of a line
 

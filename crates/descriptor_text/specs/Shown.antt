@@ -1,8 +1,8 @@
 -- What a step along a list shows, and what is written of it.
 -- Assumes nothing.
 use mathlib.Core.Path.{_≡_}
-use mathlib.Core.List.{List, [], _∷_}
-use Prim.Native.Nat.{ℕ, zero, suc}
+use mathlib.Core.List.{List}
+use Prim.Native.Nat.{ℕ}
 use Rattle.wording.specs.Writing.{WroteIfFits}
 use Rattle.descriptors.specs.Steps.{advanceOf, partShown}
 use Rattle.descriptors.specs.declared.cursor.Cursor.{Cursor}
@@ -12,8 +12,3 @@ use Rattle.descriptor_text.specs.Lines.{descriptorLine}
 pub record StepWrote (s : List ℕ) (c : Cursor) (at : ℕ) (before final : List ℕ) (next : Cursor) (end : ℕ) : Type 0 where
   pub next-place : next ≡ advanceOf s c .next
   pub shown : WroteIfFits at (descriptorLine (partShown s (advanceOf s c))) before final end
-
--- the descriptors that n steps from a cursor show
-abbrev pub shownBy : ℕ → List ℕ → Cursor → List (List ℕ)
-shownBy zero s c = []
-shownBy (suc n) s c = partShown s (advanceOf s c) ∷ shownBy n s (advanceOf s c .next)

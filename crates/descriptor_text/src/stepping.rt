@@ -4,7 +4,8 @@ use descriptors::cursor::Cursor;
 use descriptors::reader::Reader;
 use descriptors::reader::next;
 ghost use Rattle.descriptor_text.specs.Lines.{descriptorLines};
-ghost use Rattle.descriptor_text.specs.Shown.{StepWrote, shownBy};
+ghost use Rattle.descriptors.specs.Steps.{shownBy};
+ghost use Rattle.descriptor_text.specs.Shown.{StepWrote};
 ghost use Rattle.wording.specs.Writing.{WroteIfFits};
 
 // The reader's place after a step, and the place after the line.

@@ -5,6 +5,7 @@ pub mod Answers
 pub mod Rising
 pub mod Steps
 pub mod Laws
+pub mod Shown
 pub mod StrictLaws
 pub mod Unique
 pub mod Held

@@ -2,7 +2,7 @@
 -- Assumes nothing.
 use mathlib.Core.Path.{_≡_, refl, sym, ap, _∙_, subst}
 use mathlib.Core.Bool.{Bool, true, false, and-false, false≢true}
-use mathlib.Core.List.{List, [], _∷_}
+use mathlib.Core.List.{List, [], _∷_, _++_, flatten, append-nil}
 use Prim.Native.Nat.{ℕ, zero, suc, _+_}
 use native.Mathlib.Omega.{arith}
 use borrow.Author.Tests.{not-true}
@@ -14,11 +14,12 @@ use Rattle.octets.specs.Split.{Split}
 use Rattle.descriptors.specs.Parse.{split}
 use Rattle.descriptors.specs.Tested.{admits, listOk, unreserved, listAnswer}
 use Rattle.descriptors.specs.Steps.{firstShown, stepAnswer}
-use Rattle.descriptors.specs.StrictLaws.{reservedAt, NoneReserved, HasReserved, stepFrom, StrictExactly, StrictShowsSame, StrictLeavesNone, ReservedRefused, LabelAdmits}
+use Rattle.descriptors.specs.StrictLaws.{reservedAt, NoneReserved, HasReserved, stepFrom, StrictExactly, StrictShowsSame, StrictLeavesNone, StrictShowsWhole, ReservedRefused, LabelAdmits}
 use Rattle.descriptors.specs.declared.cursor.Cursor.{Cursor}
-use Rattle.descriptors.proofs.Split.{parse-split}
+use Rattle.descriptors.proofs.Split.{split-joined, parse-split}
 use Rattle.descriptors.proofs.Steps.{Stands, stands-step, stands-past}
 use Rattle.descriptors.proofs.Answers.{list-refused, list-accepted, ok-counted}
+use Rattle.descriptors.proofs.Shown.{ok-parse, shows-all}
 use Rattle.descriptors.proofs.Laws.{ok-parts, parts-ok, starts}
 
 -- ---- which descriptors each way admits
@@ -72,6 +73,14 @@ none-left label (d ∷ ds) none = rw (none 0 (omega arith)) (ap (λ (us : List (
 pub strict-leaves-none : StrictLeavesNone
 strict-leaves-none label s ds ok e =
     none-left label ds (subst (λ (p : Split). NoneReserved label (p .0)) (parse-split s ds e) (strict-free label s ok))
+
+pub strict-shows-whole : StrictShowsWhole
+strict-shows-whole label s ok =
+    let parsed = ok-parse label true s ok in
+    ap flatten (shows-all label true s ok ∙ strict-leaves-none label s (split s .0) ok parsed)
+    ∙ sym (append-nil (flatten (split s .0)))
+    ∙ ap (λ (l : List ℕ). flatten (split s .0) ++ l) (sym (ap (λ (p : Split). p .1) (parse-split s (split s .0) parsed)))
+    ∙ split-joined s
 
 pub reserved-not-ok : (label : Bool) (s : List ℕ) → HasReserved label (split s .0) → listOk label strictByDefault s ≡ false
 reserved-not-ok label s h = refused (listOk label strictByDefault s) refl

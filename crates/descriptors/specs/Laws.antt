@@ -1,4 +1,4 @@
--- What descriptor lists, steps and labels promise, as statements; proofs/Laws.antt, Rising.antt, Whole.antt and Unique.antt prove them.
+-- What descriptor lists, steps and labels promise, as statements; proofs/Laws.antt, Rising.antt, Shown.antt, Whole.antt and Unique.antt prove them.
 -- Assumes nothing.
 use mathlib.Core.Path.{_≡_}
 use mathlib.Core.Logic.{_↔_}
@@ -12,8 +12,8 @@ use Rattle.octets.specs.Tests.{all, partOf}
 use Rattle.octets.specs.Unique.{Unique, UniqueBy}
 use Rattle.descriptors.specs.Descriptor.{typeOf, isReserved, isDescriptor, sizeOf}
 use Rattle.descriptors.specs.Parse.{split, parse}
-use Rattle.descriptors.specs.Tested.{admits, listOk, unreserved, listTests, testedSays, listAnswer, listCheck}
-use Rattle.descriptors.specs.Steps.{leftTests, stepSays, stepAnswer, cursorAtStart, begunOf, advanceOf, partShown, cursorAfter, listStep}
+use Rattle.descriptors.specs.Tested.{admits, listOk, unreserved, countOf, listTests, testedSays, listAnswer, listCheck}
+use Rattle.descriptors.specs.Steps.{leftTests, stepSays, stepAnswer, cursorAtStart, begunOf, advanceOf, partShown, cursorAfter, shownBy, listStep}
 use Rattle.descriptors.specs.Labels.{labelMax, listOf, holds, labelStrict, labelTests, labelSays, labelAnswer, labelCheck}
 use Rattle.descriptors.specs.declared.cursor.Cursor.{Cursor}
 
@@ -57,6 +57,10 @@ abbrev pub ThenNothing : Type 0
 ThenNothing =
     (label strict : Bool) (s : List ℕ) (ds : List (List ℕ)) (i : ℕ) → listOk label strict s ≡ true → parse s ≡ some ds → length (unreserved label ds) ≤ i
     → let c = cursorAfter i s (cursorAtStart label strict) in advanceOf s c ≡ record { number = 0; from = c .at; end = c .at; next = c }
+
+-- as many steps as an accepted list has unreserved descriptors show them all
+abbrev pub ShowsAll : Type 0
+ShowsAll = (label strict : Bool) (s : List ℕ) → listOk label strict s ≡ true → shownBy (countOf label s) s (cursorAtStart label strict) ≡ unreserved label (split s .0)
 
 -- of any list and place: "each step shows one whole descriptor, from its type byte on", that is not reserved and lies in the list at or after the place
 pub record ShownWhole (label : Bool) (s : List ℕ) (at from end : ℕ) : Type 0 where

@@ -72,6 +72,11 @@ abbrev pub cursorAfter : ℕ → List ℕ → Cursor → Cursor
 cursorAfter zero s c = c
 cursorAfter (suc n) s c = cursorAfter n s (advanceOf s c .next)
 
+-- the descriptors that n steps from a cursor show
+abbrev pub shownBy : ℕ → List ℕ → Cursor → List (List ℕ)
+shownBy zero s c = []
+shownBy (suc n) s c = partShown s (advanceOf s c) ∷ shownBy n s (advanceOf s c .next)
+
 -- the number, and the two lent places after it, which 0 alone changes
 abbrev pub placesAfter : Advance → List ℕ → ℕ × List ℕ
 placesAfter a before = (a .number, kept (a .number) (a .from ∷ a .end ∷ []) before)

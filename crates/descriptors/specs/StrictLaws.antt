@@ -3,15 +3,15 @@
 use mathlib.Core.Path.{_≡_}
 use mathlib.Core.Logic.{_↔_}
 use mathlib.Core.Bool.{Bool, true, false}
-use mathlib.Core.List.{List, [], _∷_}
+use mathlib.Core.List.{List, [], _∷_, flatten}
 use mathlib.Core.Option.{some}
 use Prim.Native.Nat.{ℕ, _<_}
 use lib.ListN.{length, getD}
 use Rattle.octets.specs.Tests.{all}
 use Rattle.descriptors.specs.Descriptor.{typeOf, isReserved, strictByDefault}
 use Rattle.descriptors.specs.Parse.{split, parse}
-use Rattle.descriptors.specs.Tested.{admits, listOk, unreserved, listAnswer}
-use Rattle.descriptors.specs.Steps.{cursorAtStart, advanceOf, cursorAfter}
+use Rattle.descriptors.specs.Tested.{admits, listOk, unreserved, countOf, listAnswer}
+use Rattle.descriptors.specs.Steps.{cursorAtStart, advanceOf, cursorAfter, shownBy}
 use Rattle.descriptors.specs.Labels.{labelStrict}
 use Rattle.descriptors.specs.declared.cursor.Cursor.{Cursor}
 
@@ -44,6 +44,10 @@ StrictShowsSame = (label : Bool) (s : List ℕ) (i : ℕ) → listOk label true 
 -- no descriptor is left out of the count, or of what is shown
 abbrev pub StrictLeavesNone : Type 0
 StrictLeavesNone = (label : Bool) (s : List ℕ) (ds : List (List ℕ)) → listOk label true s ≡ true → parse s ≡ some ds → unreserved label ds ≡ ds
+
+-- so that what is shown, end to end, is the list
+abbrev pub StrictShowsWhole : Type 0
+StrictShowsWhole = (label : Bool) (s : List ℕ) → listOk label true s ≡ true → flatten (shownBy (countOf label s) s (cursorAtStart label true)) ≡ s
 
 -- "a reserved type gives 2": of any list, one among the whole descriptors that it begins with is enough
 abbrev pub ReservedRefused : Type 0

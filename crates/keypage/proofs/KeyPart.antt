@@ -32,6 +32,15 @@ module _ {A : Type 0} (f : ℕ) (plain reference wrapped other : A) where
   pub of-other : (f ≡ plainFormat → ⊥) → (f ≡ referenceFormat → ⊥) → (f ≡ wrappedFormat → ⊥) → byFormat f plain reference wrapped other ≡ other
   of-other a b c = rw (ne-eqb f plainFormat a, ne-eqb f referenceFormat b, ne-eqb f wrappedFormat c)
 
+-- where all formats but one have the same
+pub not-wrapped : {A : Type 0} (f : ℕ) (one others : A) → (f ≡ wrappedFormat → ⊥) → byFormat f others others one others ≡ others
+not-wrapped f one others another = go (eqb f plainFormat) (eqb f referenceFormat)
+  where
+    go : (a b : Bool) → when a others (when b others (when (eqb f wrappedFormat) one others)) ≡ others
+    go true b = refl
+    go false true = refl
+    go false false = rw (ne-eqb f wrappedFormat another)
+
 -- ---- the formats that are known
 
 pub data Known (f : ℕ) : Type 0 where
@@ -64,7 +73,7 @@ known-needs f (as-wrapped e) n = ap needsRow e
 
 -- ---- the KEK type
 
-kek-type : (k : ℕ) → isKekType k ≡ true → (1 ≤ k) × (k ≤ 2)
+pub kek-type : (k : ℕ) → isKekType k ≡ true → (1 ≤ k) × (k ≤ 2)
 kek-type k e = go (eqb k 1) (eqb k 2) refl refl e
   where
     go : (a b : Bool) → eqb k 1 ≡ a → eqb k 2 ≡ b → (a || b) ≡ true → (1 ≤ k) × (k ≤ 2)

@@ -1,6 +1,7 @@
 pub mod KeyPart
 pub mod ReadNumbers
 pub mod Page
+pub mod Held
 pub mod Reserved
 pub mod LoadNumbers
 pub mod Load

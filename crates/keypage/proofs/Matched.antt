@@ -15,7 +15,8 @@ use Rattle.keytable.specs.Table.{tableOk}
 use Rattle.keytable.proofs.Laws.{rowFor-good}
 use Rattle.keytable.proofs.RowFound.{row-key-bytes}
 use Rattle.keywrap.specs.Calls.{wrappedSize, unwrapAnswer}
-use Rattle.keypage.specs.Page.{keyPartAt, algorithmIn, formatIn, keyLength, keyPart, fieldsOf}
+use Rattle.keypage.specs.Layout.{keyPartAt}
+use Rattle.keypage.specs.Page.{algorithmIn, formatIn, keyLength, keyPart, fieldsOf}
 use Rattle.keypage.specs.KeyPart.{wrappedFormat, kekType, identifierAt, identifierSize, identifierOf, wrappedOf}
 use Rattle.keypage.specs.Load.{kekRow, rowNamed, partTests, partAnswer, loadAnswer}
 use Rattle.keypage.specs.Laws.{Given, KekMatched}

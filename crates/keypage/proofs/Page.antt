@@ -11,7 +11,8 @@ use Rattle.octets.specs.BigEndian.{numberAt}
 use Rattle.octets.proofs.Tests.{or-left, or-right, every-at}
 use Rattle.descriptors.proofs.Answers.{list-accepted, number-ok}
 use Rattle.descriptors.proofs.Laws.{accepts-exactly}
-use Rattle.keypage.specs.Page.{pageCode, pageMax, keyPartAt, scopeIn, reservedIn, encryptionIn, decryptionIn, algorithmIn, formatIn, keyLength}
+use Rattle.keypage.specs.Layout.{codeAt, pageCode, pageLengthAt, beforeLength, keyPartAt, pageMax}
+use Rattle.keypage.specs.Page.{scopeIn, reservedIn, encryptionIn, decryptionIn, algorithmIn, formatIn, keyLength}
 use Rattle.keypage.specs.Page.{keyPart, listIn, pageStrict, pageListOk, pageListCount, pageTests, pageOk, permittedTests, fieldsOk}
 use Rattle.keypage.specs.KeyPart.{partBroken, partRefused, partLong}
 use Rattle.keypage.specs.Read.{pageReadNumber, pageReadAnswer}
@@ -26,8 +27,8 @@ module _ (p : List ℕ) where
   unfolding pageOk fieldsOk
   page-laid ok fields short =
       record {
-        code = eqb-true (numberAt 2 p 0) pageCode (every-at (pageTests p) 0 ok);
-        total = eqb-true (length p) (numberAt 2 p 2 + 4) (every-at (pageTests p) 1 ok);
+        code = eqb-true (numberAt 2 p codeAt) pageCode (every-at (pageTests p) 0 ok);
+        total = eqb-true (length p) (numberAt 2 p pageLengthAt + beforeLength) (every-at (pageTests p) 1 ok);
         reserved-bits = eqb-true (reservedIn p) 0 (every-at (pageTests p) 2 ok);
         reserved-bytes = every-at (pageTests p) 3 ok;
         key-within = leb-true (keyPartAt + keyLength p) (length p) (every-at (pageTests p) 4 ok);
@@ -50,8 +51,8 @@ module _ (p : List ℕ) where
     unfolding pageOk
     laid-page =
         rw (
-          eq-eqb (numberAt 2 p 0) pageCode (h .code),
-          eq-eqb (length p) (numberAt 2 p 2 + 4) (h .total),
+          eq-eqb (numberAt 2 p codeAt) pageCode (h .code),
+          eq-eqb (length p) (numberAt 2 p pageLengthAt + beforeLength) (h .total),
           eq-eqb (reservedIn p) 0 (h .reserved-bits),
           h .reserved-bytes,
           le-leb (keyPartAt + keyLength p) (length p) (h .key-within),

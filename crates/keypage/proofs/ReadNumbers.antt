@@ -3,26 +3,27 @@
 use mathlib.Core.Path.{_≡_, refl, _∙_}
 use mathlib.Core.Bool.{Bool, true, false, not}
 use mathlib.Core.List.{List, [], _∷_}
-use Prim.Native.Nat.{ℕ, _+_, _/_, _%_}
+use Prim.Native.Nat.{ℕ, _+_}
 use borrow.Author.Tests.{ne-eqb, not-false}
 use lib.Dec.{eqb, leb}
-use lib.ListN.{length, getD}
+use lib.ListN.{length}
 use Rattle.octets.specs.BigEndian.{numberAt}
 use Rattle.octets.specs.Lent.{when}
 use Rattle.octets.specs.Tests.{every, zeros, partOf}
 use Rattle.octets.proofs.Lent.{testAt, none-applies}
 use Rattle.octets.proofs.Tests.{or-left, every-at}
-use Rattle.keypage.specs.Page.{pageCode, keyPartAt, formatIn, keyLength, keyPart, listIn, pageListOk, pageListCount, pageTests, pageOk, fieldsOf}
+use Rattle.keypage.specs.Layout.{codeAt, pageCode, pageLengthAt, beforeLength, zerosAt, zerosCount}
+use Rattle.keypage.specs.Page.{reservedIn, formatIn, keyPart, listAt, listIn, pageListOk, pageListCount, pageTests, pageOk, fieldsOf}
 use Rattle.keypage.specs.KeyPart.{partBroken}
 use Rattle.keypage.specs.Read.{broken, refused, long, pageReadTests, pageReadNumber, pageReadAnswer}
 use Rattle.keypage.proofs.KeyPart.{Passed}
 
 -- the tests of a page's own layout, by what the code has read of it
-pub page-tested : (p : List ℕ) (code size first key : ℕ) (reserved listed : Bool) → code ≡ numberAt 2 p 0 → size ≡ numberAt 2 p 2 → first ≡ getD p 4 0
-    → reserved ≡ zeros (partOf p 10 8) → key ≡ keyLength p → listed ≡ pageListOk (listIn p)
-    → every (eqb code pageCode ∷ eqb (length p) (size + 4) ∷ eqb (first / 2 % 16) 0 ∷ reserved ∷ leb (keyPartAt + key) (length p) ∷ listed ∷ []) ≡ pageOk p
+pub page-tested : (p : List ℕ) (code size bits list : ℕ) (reserved listed : Bool) → code ≡ numberAt 2 p codeAt → size ≡ numberAt 2 p pageLengthAt → bits ≡ reservedIn p
+    → reserved ≡ zeros (partOf p zerosAt zerosCount) → list ≡ listAt p → listed ≡ pageListOk (listIn p)
+    → every (eqb code pageCode ∷ eqb (length p) (size + beforeLength) ∷ eqb bits 0 ∷ reserved ∷ leb list (length p) ∷ listed ∷ []) ≡ pageOk p
 unfolding pageOk
-page-tested p code size first key reserved listed e1 e2 e3 e4 e5 e6 = rw (e1, e2, e3, e4, e5, e6)
+page-tested p code size bits list reserved listed e1 e2 e3 e4 e5 e6 = rw (e1, e2, e3, e4, e5, e6)
 
 -- ---- each number by the tests that led there
 

@@ -29,23 +29,32 @@ byFormat f plain reference wrapped other =
     when (eqb f plainFormat) plain (when (eqb f referenceFormat) reference (when (eqb f wrappedFormat) wrapped other))
 
 -- format 04h
-abbrev pub kekType : List ℕ → ℕ
-kekType s = numberAt 2 s 0
+abbrev pub kekTypeAt : ℕ
+kekTypeAt = 0
 
-abbrev pub identifierSize : List ℕ → ℕ
-identifierSize s = numberAt 2 s 2
+abbrev pub identifierSizeAt : ℕ
+identifierSizeAt = 2
 
 abbrev pub identifierAt : ℕ
 identifierAt = 4
 
+abbrev pub kekType : List ℕ → ℕ
+kekType s = numberAt 2 s kekTypeAt
+
+abbrev pub identifierSize : List ℕ → ℕ
+identifierSize s = numberAt 2 s identifierSizeAt
+
 abbrev pub identifierOf : List ℕ → List ℕ
 identifierOf s = partOf s identifierAt (identifierSize s)
 
+abbrev pub wrappedAt : List ℕ → ℕ
+wrappedAt s = identifierAt + identifierSize s
+
 abbrev pub wrappedOf : List ℕ → List ℕ
-wrappedOf s = drop (identifierAt + identifierSize s) s
+wrappedOf s = drop (wrappedAt s) s
 
 abbrev pub wrappedTests : List ℕ → List Bool
-wrappedTests s = leb identifierAt (length s) ∷ leb 1 (identifierSize s) ∷ leb (identifierAt + identifierSize s) (length s) ∷ []
+wrappedTests s = leb identifierAt (length s) ∷ leb 1 (identifierSize s) ∷ leb (wrappedAt s) (length s) ∷ []
 
 -- 2: "KEY part of a known format .. identifier length 0"
 unfoldable pub partBroken : ℕ → List ℕ → Bool

@@ -1,12 +1,12 @@
--- What key pages promise, as statements; proofs/Laws.antt proves each.
+-- What key pages promise, as statements; proofs/Laws.antt and Held.antt prove them.
 -- Assumes nothing.
 use mathlib.Core.Path.{_≡_}
 use mathlib.Core.Logic.{_↔_}
 use mathlib.Core.Bool.{Bool, true, false}
-use mathlib.Core.List.{List}
+use mathlib.Core.List.{List, [], _∷_}
 use mathlib.Core.Option.{Option, some, none}
-use Prim.Native.Nat.{ℕ, _+_, _≤_}
-use lib.ListN.{length}
+use Prim.Native.Nat.{ℕ, _+_, _-_, _≤_}
+use lib.ListN.{length, getD, drop}
 use Rattle.octets.specs.Bytes.{Bytes}
 use Rattle.octets.specs.Lent.{when, over}
 use Rattle.octets.specs.Lowest.{rises}
@@ -21,19 +21,21 @@ use Rattle.keywrap.specs.Laws.{WrapsTo}
 use Rattle.descriptors.specs.Parse.{split}
 use Rattle.descriptors.specs.Laws.{Accepted}
 use Rattle.descriptors.specs.StrictLaws.{HasReserved}
-use Rattle.keypage.specs.Page.{pageCode, pageMax, keyPartAt, scopeIn, reservedIn, encryptionIn, decryptionIn, algorithmIn, formatIn, keyLength, keyPart, listIn, pageStrict, fieldsOf}
-use Rattle.keypage.specs.KeyPart.{plainFormat, referenceFormat, wrappedFormat, referenceMin, kekType, identifierSize, wrappedOf, identifierAt}
+use Rattle.keypage.specs.Layout.{codeAt, pageCode, pageLengthAt, beforeLength, zerosAt, zerosCount, keyPartAt, pageMax}
+use Rattle.keypage.specs.Page.{scopeIn, reservedIn, encryptionIn, decryptionIn, algorithmIn, formatIn, keyLength, keyPart, listIn, pageStrict, fieldsOf}
+use Rattle.keypage.specs.KeyPart.{plainFormat, referenceFormat, wrappedFormat, referenceMin, kekType, identifierSize, identifierAt, identifierOf, wrappedOf}
 use Rattle.keypage.specs.Read.{pageReadTests, pageReadNumber, pageReadAnswer}
+use Rattle.keypage.specs.Places.{placesAnswer}
 use Rattle.keypage.specs.Load.{kekRow, rowNamed, partTests, loadTests, loadAnswer}
 
 -- ---- reading accepts exactly the pages of the layout with permitted values
 
 -- the page's own layout and fields, with n unreserved descriptors
 pub record Laid (p : List ℕ) (n : ℕ) : Type 0 where
-  pub code : numberAt 2 p 0 ≡ pageCode
-  pub total : length p ≡ numberAt 2 p 2 + 4
+  pub code : numberAt 2 p codeAt ≡ pageCode
+  pub total : length p ≡ numberAt 2 p pageLengthAt + beforeLength
   pub reserved-bits : reservedIn p ≡ 0
-  pub reserved-bytes : zeros (partOf p 10 8) ≡ true
+  pub reserved-bytes : zeros (partOf p zerosAt zerosCount) ≡ true
   pub key-within : keyPartAt + keyLength p ≤ length p
   pub list : Accepted false pageStrict (listIn p) n
   pub scope : scopeIn p ≤ 2
@@ -72,6 +74,26 @@ reservedNumber ok = when ok 2 1
 
 abbrev pub ReservedLoadsTwo : Type 0
 ReservedLoadsTwo = (t p out fields : List ℕ) → HoldsReserved p → loadAnswer t p out fields ≡ ((reservedNumber (tableOk t), out), fields)
+
+-- ---- where the parts of a page are: what is stored of an accepted page tells its KEY part and its list, and of format 04h the rest
+
+pub record PlacesTold (p at : List ℕ) : Type 0 where
+  pub key-part : keyPart p ≡ partOf p keyPartAt (getD at 0 0 - keyPartAt)
+  pub list : listIn p ≡ drop (getD at 0 0) p
+
+pub record WrappedTold (p at : List ℕ) : Type 0 where
+  pub type : kekType (keyPart p) ≡ getD at 1 0
+  pub identifier : identifierOf (keyPart p) ≡ partOf p (getD at 2 0) (getD at 3 0 - getD at 2 0)
+  pub wrapped-key : wrappedOf (keyPart p) ≡ partOf p (getD at 3 0) (getD at 0 0 - getD at 3 0)
+
+abbrev pub PlacesTell : Type 0
+PlacesTell = (p before at : List ℕ) → placesAnswer p before ≡ (0, at) → PlacesTold p at
+
+abbrev pub WrappedTell : Type 0
+WrappedTell = (p before at : List ℕ) → placesAnswer p before ≡ (0, at) → formatIn p ≡ wrappedFormat → WrappedTold p at
+
+abbrev pub OthersTellNone : Type 0
+OthersTellNone = (p before at : List ℕ) → placesAnswer p before ≡ (0, at) → (formatIn p ≡ wrappedFormat → ⊥) → drop 1 at ≡ 0 ∷ 0 ∷ 0 ∷ []
 
 -- ---- loading, for an accepted table, a page that reading accepts, and room
 
@@ -178,6 +200,9 @@ LoadTestsRise = (ok : Bool) (row : Option Row) (p : List ℕ) (room : ℕ) → r
 
 abbrev pub PageReadUnique : Type 0
 PageReadUnique = (p fields : List ℕ) → Unique (pageReadAnswer p fields)
+
+abbrev pub PlacesUnique : Type 0
+PlacesUnique = (p at : List ℕ) → Unique (placesAnswer p at)
 
 abbrev pub LoadUnique : Type 0
 LoadUnique = (t p out fields : List ℕ) → Unique (loadAnswer t p out fields)

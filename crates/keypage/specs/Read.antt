@@ -6,7 +6,8 @@ use mathlib.Core.List.{List, [], _∷_}
 use lib.ListN.{length}
 use lib.Dec.{ltb}
 use Rattle.octets.specs.Lent.{Tests, lowest, kept}
-use Rattle.keypage.specs.Page.{pageMax, formatIn, keyPart, pageOk, fieldsOk, fieldsOf}
+use Rattle.keypage.specs.Layout.{pageMax}
+use Rattle.keypage.specs.Page.{formatIn, keyPart, pageOk, fieldsOk, fieldsOf}
 use Rattle.keypage.specs.KeyPart.{partBroken, partRefused, partLong}
 
 abbrev pub broken : List ℕ → Bool

@@ -1,7 +1,9 @@
-// Key pages of document 01: reading one, and loading its key. specs/Page.antt has the layout, specs/KeyPart.antt the formats.
+// Key pages of document 01: reading one, what it holds and where, and loading its key. specs/Layout.antt and specs/Page.antt have the layout,
+// specs/KeyPart.antt the formats.
 pub mod loading;
-mod parts;
+pub mod parts;
+pub mod places;
 pub mod reading;
 mod reference;
-mod sizes;
-mod wrapped;
+pub mod sizes;
+pub mod wrapped;

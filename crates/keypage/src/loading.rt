@@ -1,17 +1,16 @@
 // Loading the key of a page: every refusal comes before the first write. The KEY part is handed to the reader of its format.
 use crate::reading::FIELD_COUNT;
+use crate::reading::algorithm_in;
 use crate::reading::check;
 use crate::reading::fields_of;
+use crate::reading::format_in;
 use crate::reading::key_part;
 use crate::reference::load_reference;
-use crate::sizes::ALGORITHM_AT;
-use crate::sizes::FORMAT_AT;
 use crate::sizes::KEY_SIZE;
 use crate::sizes::PLAIN_FORMAT;
 use crate::sizes::REFERENCE_FORMAT;
 use crate::wrapped::load_wrapped;
 use keytable::Table;
-use octets::big_endian::read8;
 use octets::strings::put;
 ghost use mathlib.Core.Path.{_≡_};
 ghost use mathlib.Core.Bool.{true, false};
@@ -51,13 +50,7 @@ pub fn load(table: &[u8], p: &[u8], out: &mut [u8], fields: &mut [u64; FIELD_COU
     if out.len() < KEY_SIZE {
         return 5;
     }
-    let loaded = load_part(
-        table,
-        read8(p, ALGORITHM_AT),
-        read8(p, FORMAT_AT),
-        key_part(p),
-        out,
-    );
+    let loaded = load_part(table, algorithm_in(p), format_in(p), key_part(p), out);
     if loaded != 0 {
         return loaded;
     }

@@ -1,13 +1,14 @@
 // The KEY part of a page, by its format: its own tests. Each is lent the part alone.
 use crate::sizes::IDENTIFIER_AT;
 use crate::sizes::IDENTIFIER_LENGTH_AT;
-use crate::sizes::KEK_TYPE_AT;
 use crate::sizes::KEY_SIZE;
 use crate::sizes::NAME_MAX;
 use crate::sizes::PLAIN_FORMAT;
 use crate::sizes::REFERENCE_FORMAT;
 use crate::sizes::REFERENCE_MIN;
 use crate::sizes::WRAPPED_FORMAT;
+use crate::wrapped::kek_type;
+use crate::wrapped::wrapped_at;
 use keytable::is_kek_type;
 use octets::big_endian::read16;
 ghost use mathlib.Core.Path.{_≡_};
@@ -20,11 +21,11 @@ fn identifier_ok(s: &[u8]) -> bool
     ensures { λ r. ⌜ r ≡ every (wrappedTests (now (s .entry))) ⌝ }
 {
     let n = read16(s, IDENTIFIER_LENGTH_AT);
-    (IDENTIFIER_AT <= s.len()) & (1 <= n) & (IDENTIFIER_AT + n <= s.len())
+    (IDENTIFIER_AT <= s.len()) & (1 <= n) & (wrapped_at(s) <= s.len())
 }
 
 // 2: the part breaks the layout of its format; one of another format is not looked at.
-pub(crate) fn part_broken(format: usize, s: &[u8]) -> bool
+pub fn part_broken(format: usize, s: &[u8]) -> bool
     ensures { λ r. ⌜ r ≡ partBroken format (now (s .entry)) ⌝ }
 {
     if format == PLAIN_FORMAT {
@@ -40,7 +41,7 @@ pub(crate) fn part_broken(format: usize, s: &[u8]) -> bool
 }
 
 // 3: a KEK type that is not permitted, or an unknown format.
-pub(crate) fn part_refused(format: usize, s: &[u8]) -> bool
+pub fn part_refused(format: usize, s: &[u8]) -> bool
     ensures { λ r. ⌜ r ≡ partRefused format (now (s .entry)) ⌝ }
 {
     if format == PLAIN_FORMAT {
@@ -50,13 +51,13 @@ pub(crate) fn part_refused(format: usize, s: &[u8]) -> bool
         return false;
     }
     if format == WRAPPED_FORMAT {
-        return !is_kek_type(read16(s, KEK_TYPE_AT));
+        return !is_kek_type(kek_type(s));
     }
     true
 }
 
 // 4: a reference or an identifier of more than 32 bytes.
-pub(crate) fn part_long(format: usize, s: &[u8]) -> bool
+pub fn part_long(format: usize, s: &[u8]) -> bool
     ensures { λ r. ⌜ r ≡ partLong format (now (s .entry)) ⌝ }
 {
     if format == PLAIN_FORMAT {

@@ -9,10 +9,12 @@ use crate::sizes::CEEM_AT;
 use crate::sizes::CODE_AT;
 use crate::sizes::DECRYPTION_AT;
 use crate::sizes::DECRYPTION_MAX;
+use crate::sizes::EIGHT_BITS;
 use crate::sizes::ENCRYPTION_AT;
 use crate::sizes::ENCRYPTION_MAX;
 use crate::sizes::FORMAT_AT;
 use crate::sizes::FOUR_BITS;
+use crate::sizes::FROM_BIT_0;
 use crate::sizes::FROM_BIT_1;
 use crate::sizes::FROM_BIT_2;
 use crate::sizes::FROM_BIT_3;
@@ -28,6 +30,7 @@ use crate::sizes::PAGE_MAX;
 use crate::sizes::PAGE_STRICT;
 use crate::sizes::SCOPE_AT;
 use crate::sizes::SCOPE_MAX;
+use crate::sizes::THREE_BITS;
 use crate::sizes::TWO_BITS;
 use crate::sizes::ZERO_AT;
 use crate::sizes::ZERO_SIZE;
@@ -38,15 +41,19 @@ use octets::strings::all_zero;
 use octets::strings::part;
 ghost use mathlib.Core.Path.{_≡_};
 ghost use mathlib.Core.Bool.{true};
+ghost use Prim.Native.Nat.{_/_, _%_, _<_};
+ghost use lib.ListN.{getD};
 ghost use Rattle.octets.specs.Lent.{when};
-ghost use Rattle.keypage.specs.Page.{keyPart, listIn, pageListOk, pageListCount, pageOk, fieldsOk, fieldsOf};
+ghost use Rattle.octets.specs.Tests.{every};
+ghost use Rattle.keypage.specs.Page as Page;
+ghost use Rattle.keypage.specs.Page.{algorithmIn, formatIn, keyPart, listAt, listIn, pageListOk, pageListCount, pageOk, fieldsOk, fieldsOf};
 ghost use Rattle.keypage.specs.Read.{pageReadNumber, pageReadAnswer};
 
 // The fields that reading and loading store, in the order of the C interface.
 pub const FIELD_COUNT: usize = 14;
 
 // Whether a page's list is accepted, and how many of its descriptors are not reserved.
-fn list_ok(list: &[u8]) -> bool
+pub fn list_ok(list: &[u8]) -> bool
     ensures { λ r. ⌜ r ≡ pageListOk (now (list .entry)) ⌝ }
 {
     let Tested::Counted(_) = descriptors::list::check_list_as(list, false, PAGE_STRICT) else {
@@ -65,20 +72,46 @@ fn list_count(list: &[u8]) -> usize
 }
 
 // The KEY part, from byte 20, and the list after it.
-pub(crate) fn key_part(p: &[u8]) -> &[u8]
+pub fn key_part(p: &[u8]) -> &[u8]
     ensures { λ r. ⌜ now r ≡ keyPart (now (p .entry)) ⌝ }
 {
     part(p, KEY_AT, read16(p, KEY_LENGTH_AT))
 }
 
+pub(crate) fn list_at(p: &[u8]) -> usize
+    ensures { λ r. ⌜ r ≡ listAt (now (p .entry)) ⌝ }
+{
+    KEY_AT + read16(p, KEY_LENGTH_AT)
+}
+
 pub fn list_in(p: &[u8]) -> &[u8]
     ensures { λ r. ⌜ now r ≡ listIn (now (p .entry)) ⌝ }
 {
-    part(p, KEY_AT + read16(p, KEY_LENGTH_AT), p.len())
+    part(p, list_at(p), p.len())
 }
 
 // Whether the list is stepped along strict: as it is tested.
 pub const LIST_STRICT: bool = PAGE_STRICT;
+
+// Some bits of a byte of the page: a weight to divide it by, and how many values they have.
+fn bits_in(p: &[u8], at: usize, weight: usize, span: usize) -> usize
+    requires { ⌜ (0 < weight) × (0 < span) ⌝ }
+    ensures { λ r. ⌜ r ≡ getD (now (p .entry)) at 0 / weight % span ⌝ }
+{
+    read8(p, at) / weight % span
+}
+
+pub(crate) fn algorithm_in(p: &[u8]) -> usize
+    ensures { λ r. ⌜ r ≡ algorithmIn (now (p .entry)) ⌝ }
+{
+    bits_in(p, ALGORITHM_AT, FROM_BIT_0, EIGHT_BITS)
+}
+
+pub(crate) fn format_in(p: &[u8]) -> usize
+    ensures { λ r. ⌜ r ≡ formatIn (now (p .entry)) ⌝ }
+{
+    bits_in(p, FORMAT_AT, FROM_BIT_0, EIGHT_BITS)
+}
 
 // Whether the page's own bytes keep to the layout.
 fn page_ok(p: &[u8]) -> bool
@@ -88,29 +121,39 @@ fn page_ok(p: &[u8]) -> bool
     let listed = list_ok(list_in(p));
     (read16(p, CODE_AT) == PAGE_CODE)
         & (p.len() == read16(p, PAGE_LENGTH_AT) + BEFORE_LENGTH)
-        & (read8(p, SCOPE_AT) / FROM_BIT_1 % FOUR_BITS == 0)
+        & (bits_in(p, SCOPE_AT, FROM_BIT_1, FOUR_BITS) == 0)
         & reserved
-        & (KEY_AT + read16(p, KEY_LENGTH_AT) <= p.len())
+        & (list_at(p) <= p.len())
         & listed
 }
 
 // Whether scope, both modes and the algorithm index are permitted.
+pub fn permitted(scope: usize, encryption: usize, decryption: usize, algorithm: usize) -> bool
+    ensures { λ r. ⌜ r ≡ every (Page.permitted scope encryption decryption algorithm) ⌝ }
+{
+    (scope <= SCOPE_MAX)
+        & (encryption <= ENCRYPTION_MAX)
+        & (decryption <= DECRYPTION_MAX)
+        & (1 <= algorithm)
+        & (algorithm <= ALGORITHM_MAX)
+}
+
 fn fields_ok(p: &[u8]) -> bool
     ensures { λ r. ⌜ r ≡ fieldsOk (now (p .entry)) ⌝ }
 {
-    let algorithm = read8(p, ALGORITHM_AT);
-    (read8(p, SCOPE_AT) / FROM_BIT_5 <= SCOPE_MAX)
-        & (read8(p, ENCRYPTION_AT) <= ENCRYPTION_MAX)
-        & (read8(p, DECRYPTION_AT) <= DECRYPTION_MAX)
-        & (1 <= algorithm)
-        & (algorithm <= ALGORITHM_MAX)
+    permitted(
+        bits_in(p, SCOPE_AT, FROM_BIT_5, THREE_BITS),
+        bits_in(p, ENCRYPTION_AT, FROM_BIT_0, EIGHT_BITS),
+        bits_in(p, DECRYPTION_AT, FROM_BIT_0, EIGHT_BITS),
+        algorithm_in(p),
+    )
 }
 
 // The page by itself: 0, or 2, 3 or 4.
 pub fn check(p: &[u8]) -> u8
     ensures { λ r. ⌜ r ≡ pageReadNumber (now (p .entry)) ⌝ }
 {
-    let format = read8(p, FORMAT_AT);
+    let format = format_in(p);
     let s = key_part(p);
     let broken = !page_ok(p) | part_broken(format, s);
     let refused = !fields_ok(p) | part_refused(format, s);
@@ -132,21 +175,19 @@ pub(crate) fn fields_of(p: &[u8]) -> [u64; FIELD_COUNT]
     requires { ⌜ pageListOk (listIn (now p)) ≡ true ⌝ }
     ensures { λ r. ⌜ r ≡ fieldsOf (now (p .entry)) ⌝ }
 {
-    let first = read8(p, SCOPE_AT);
-    let second = read8(p, CEEM_AT);
     [
-        (first / FROM_BIT_5) as u64,
-        (first % ONE_BIT) as u64,
-        (second / FROM_BIT_6) as u64,
-        (second / FROM_BIT_4 % TWO_BITS) as u64,
-        (second / FROM_BIT_3 % ONE_BIT) as u64,
-        (second / FROM_BIT_2 % ONE_BIT) as u64,
-        (second / FROM_BIT_1 % ONE_BIT) as u64,
-        (second % ONE_BIT) as u64,
-        read8(p, ENCRYPTION_AT) as u64,
-        read8(p, DECRYPTION_AT) as u64,
-        read8(p, ALGORITHM_AT) as u64,
-        read8(p, FORMAT_AT) as u64,
+        bits_in(p, SCOPE_AT, FROM_BIT_5, THREE_BITS) as u64,
+        bits_in(p, SCOPE_AT, FROM_BIT_0, ONE_BIT) as u64,
+        bits_in(p, CEEM_AT, FROM_BIT_6, TWO_BITS) as u64,
+        bits_in(p, CEEM_AT, FROM_BIT_4, TWO_BITS) as u64,
+        bits_in(p, CEEM_AT, FROM_BIT_3, ONE_BIT) as u64,
+        bits_in(p, CEEM_AT, FROM_BIT_2, ONE_BIT) as u64,
+        bits_in(p, CEEM_AT, FROM_BIT_1, ONE_BIT) as u64,
+        bits_in(p, CEEM_AT, FROM_BIT_0, ONE_BIT) as u64,
+        bits_in(p, ENCRYPTION_AT, FROM_BIT_0, EIGHT_BITS) as u64,
+        bits_in(p, DECRYPTION_AT, FROM_BIT_0, EIGHT_BITS) as u64,
+        algorithm_in(p) as u64,
+        format_in(p) as u64,
         read16(p, KEY_LENGTH_AT) as u64,
         list_count(list_in(p)) as u64,
     ]

@@ -55,6 +55,15 @@ over-append [] t d fits = refl
 over-append (x ∷ s) t [] fits = absurd (omega arith)
 over-append (x ∷ s) t (y ∷ d) fits = ap (λ (l : List ℕ). x ∷ l) (over-append s t d (omega arith))
 
+-- and of which nothing but the first has room
+pub over-first : (s t d : List ℕ) → length d ≤ length s → over (s ++ t) d ≡ over s d
+over-first s t [] full = nothing (s ++ t) ∙ sym (nothing s)
+  where
+    nothing : (l : List ℕ) → over l [] ≡ []
+    nothing l = drop-of-length-le [] {i = length l} (omega arith)
+over-first [] t (y ∷ d) full = absurd (omega arith)
+over-first (x ∷ s) t (y ∷ d) full = ap (λ (l : List ℕ). x ∷ l) (over-first s t d (omega arith))
+
 -- ---- the loop that writes: after i bytes
 
 pub over-turn : (s d : List ℕ) (i : ℕ) → i < length s → i < length d → set (take i s ++ drop i d) i (getD s i 0) ≡ take (i + 1) s ++ drop (i + 1) d

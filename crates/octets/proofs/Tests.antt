@@ -8,7 +8,7 @@ use native.Mathlib.Nat.{le-of-suc-le-suc, not-suc-le-zero}
 use native.Mathlib.Numerals.{add-one}
 use native.Mathlib.Omega.{arith}
 use lib.ListN.{length, getD, take, drop, drop-of-length-le, take-append-drop, length-append, length-take, length-drop}
-use lib.Seq.{drop-cons, take-all, take-at, drop-at, drop-drop}
+use lib.Seq.{drop-cons, take-all, take-at, take-nil, take-take, drop-at, drop-drop}
 use Rattle.octets.specs.Tests.{also, every, all, partOf}
 
 pub and-left : (a b : Bool) → (a && b) ≡ true → a ≡ true
@@ -89,6 +89,19 @@ part-next s i n = ap (λ (l : List ℕ). partOf s i n ++ l) (sym (drop-drop n i 
 
 pub part-last : (s : List ℕ) (i n : ℕ) → length s ≡ i + n → partOf s i n ≡ drop i s
 part-last s i n e = take-all n (drop i s) (omega (arith, length-drop i s))
+
+-- a part without its first k elements, and a part of a part
+pub drop-part : (s : List ℕ) (i n k : ℕ) → drop k (partOf s i n) ≡ partOf s (i + k) (n - k)
+drop-part s i n k = go k n (drop i s) ∙ ap (take (n - k)) (drop-drop k i s)
+  where
+    go : (k n : ℕ) (l : List ℕ) → drop k (take n l) ≡ take (n - k) (drop k l)
+    go zero n l = let all : n ≡ n - 0 = omega arith in ap (λ (m : ℕ). take m l) all
+    go (suc k) zero l = let none : 0 ≡ 0 - suc k = omega arith in ap (λ (m : ℕ). take m (drop (suc k) l)) none
+    go (suc k) (suc n) [] = sym (take-nil (suc n - suc k))
+    go (suc k) (suc n) (x ∷ l) = let left : n - k ≡ suc n - suc k = omega arith in go k n l ∙ ap (λ (m : ℕ). take m (drop k l)) left
+
+pub part-part : (s : List ℕ) (i n j m : ℕ) → j + m ≤ n → partOf (partOf s i n) j m ≡ partOf s (i + j) m
+part-part s i n j m within = ap (take m) (drop-part s i n j) ∙ take-take m (n - j) (drop (i + j) s) (omega (arith, within))
 
 -- four parts end to end
 pub parts-whole : (s : List ℕ) (a b c d : ℕ) → length s ≡ a + b + c + d

@@ -64,6 +64,30 @@ pub fn put(out: &mut [u8], s: &[u8])
     }
 }
 
+// Writes one string and then another over the front of out, as far as out reaches.
+pub fn put_both(first: &[u8], second: &[u8], out: &mut [u8])
+    ensures { λ _. ⌜ now (out .exit) ≡ over (now (first .entry) ++ now (second .entry)) (now (out .entry)) ⌝ }
+{
+    let middle = first.len();
+    put(out, first);
+    if out.len() <= middle {
+        return;
+    }
+    put(&mut out[middle..], second);
+}
+
+// The same of three.
+pub fn put_three(first: &[u8], second: &[u8], third: &[u8], out: &mut [u8])
+    ensures { λ _. ⌜ now (out .exit) ≡ over (now (first .entry) ++ (now (second .entry) ++ now (third .entry))) (now (out .entry)) ⌝ }
+{
+    let middle = first.len();
+    put(out, first);
+    if out.len() <= middle {
+        return;
+    }
+    put_both(second, third, &mut out[middle..]);
+}
+
 // The first 16 bytes of a string, and zeros where it is shorter.
 pub fn first16(s: &[u8]) -> Block
     ensures { λ r. ⌜ r ≡ over (now (s .entry)) (replicate 16 0) ⌝ }

@@ -13,7 +13,8 @@ use Rattle.descriptors.specs.Descriptor.{sizeSaid, sizeOf}
 use Rattle.octets.specs.Split.{splitBy}
 use Rattle.descriptors.specs.Parse.{split}
 use Rattle.descriptors.specs.Tested.{risesFrom, splitOk, unreserved}
-use Rattle.keypage.specs.Page.{pageMax, pageOk, fieldsOk}
+use Rattle.keypage.specs.Layout.{pageMax}
+use Rattle.keypage.specs.Page.{pageOk, fieldsOk}
 use Rattle.keypage.specs.KeyPart.{partBroken, partRefused, partLong}
 use Rattle.keypage.specs.Read.{pageReadNumber}
 use Rattle.keypage.proofs.Reserved.{reserved-number}

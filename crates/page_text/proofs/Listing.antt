@@ -8,8 +8,9 @@ use lib.ListN.{length, getD, length-append}
 use borrow.Author.Tests.{lt-ltb, le-ltb, ne-eqb}
 use Rattle.wording.specs.Decimal.{decimal}
 use Rattle.wording.specs.Lines.{refusedLine}
-use Rattle.wording.proofs.Decimal.{length-decimal64}
-use Rattle.keypage.specs.Page.{pageMax, fieldsOf}
+use Rattle.wording.proofs.DecimalDigits.{length-decimal64}
+use Rattle.keypage.specs.Layout.{pageMax}
+use Rattle.keypage.specs.Page.{fieldsOf}
 use Rattle.keypage.specs.Read.{pageReadNumber, pageReadAnswer}
 use Rattle.page_text.specs.Listing.{linesIn, fieldLines, listingNumber, listing, listingMax}
 

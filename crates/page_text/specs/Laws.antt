@@ -6,7 +6,7 @@ use Prim.Native.Nat.{ℕ, _≤_, _<_}
 use lib.ListN.{length, take, drop, replicate}
 use Rattle.octets.specs.Unique.{UniqueBy}
 use Rattle.wording.specs.Ascii.{ascii}
-use Rattle.keypage.specs.Page.{pageMax}
+use Rattle.keypage.specs.Layout.{pageMax}
 use Rattle.keypage.specs.Laws.{HoldsReserved}
 use Rattle.page_text.specs.Listing.{listing, listingMax, listingAnswer}
 use Rattle.page_text.specs.declared.Text.{Text}

@@ -7,7 +7,8 @@ use lib.ListN.{length, getD, replicate}
 use Rattle.octets.specs.Lent.{when, over}
 use Rattle.wording.specs.Ascii.{ascii}
 use Rattle.wording.specs.Lines.{line, refusedLine, together}
-use Rattle.keypage.specs.Page.{pageMax, scopeIn, lockIn, encryptionIn, decryptionIn, algorithmIn, formatIn, keyLength, listIn, pageListCount}
+use Rattle.keypage.specs.Layout.{pageMax}
+use Rattle.keypage.specs.Page.{scopeIn, lockIn, encryptionIn, decryptionIn, algorithmIn, formatIn, keyLength, listIn, pageListCount}
 use Rattle.keypage.specs.Read.{pageReadNumber}
 
 abbrev pub linesOf : (scope lock encrypt decrypt algorithm format length descriptors : ℕ) → List ℕ

@@ -22,9 +22,8 @@ use octets::big_endian::bytes32;
 use octets::big_endian::read8;
 use octets::big_endian::read16;
 use octets::big_endian::read32;
-use octets::strings::put;
+use octets::strings::put_both;
 ghost use mathlib.Core.Path.{_≡_};
-ghost use mathlib.Core.List.{_++_};
 ghost use Prim.Native.Nat.{_+_, _^_, _≤_, _<_};
 ghost use lib.ListN.{length, replicate};
 ghost use Rattle.octets.specs.Lent.{over};
@@ -185,16 +184,6 @@ fn header_of(u: u8, k: usize, n: usize) -> [u8; NAME_AT]
         tag_place[2],
         tag_place[3],
     ]
-}
-
-// Writes one string and then another over the front of the output.
-pub(crate) fn put_both(first: &[u8], second: &[u8], out: &mut [u8])
-    requires { ⌜ length (now first) + length (now second) ≤ length (now out) ⌝ }
-    ensures { λ _. ⌜ now (out .exit) ≡ over (now (first .entry) ++ now (second .entry)) (now (out .entry)) ⌝ }
-{
-    let middle = first.len();
-    put(out, first);
-    put(&mut out[middle..], second);
 }
 
 // What a record has before its IV, and zeros after it.

@@ -1,7 +1,6 @@
 // Sealing a record: the tests by themselves, which write nothing, and then the record.
 use crate::header::front_of;
 use crate::header::passes_maximum;
-use crate::header::put_both;
 use crate::sizes::CALLERS_MAX;
 use crate::sizes::NAME_AT;
 use keytable::DATA_TYPE;
@@ -13,6 +12,7 @@ use modes::encrypt;
 use modes::iv_size;
 use modes::tag_size;
 use octets::strings::part;
+use octets::strings::put_both;
 ghost use mathlib.Core.Path.{_≡_};
 ghost use mathlib.Core.Option.{some};
 ghost use lib.ListN.{length};

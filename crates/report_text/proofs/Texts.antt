@@ -14,7 +14,7 @@ use Rattle.wording.specs.Ascii.{ascii}
 use Rattle.wording.specs.Hex.{digitsOf}
 use Rattle.wording.specs.Lines.{line, refusedLine}
 use Rattle.wording.specs.Writing.{putAt, Wrote, WroteIfFits}
-use Rattle.wording.proofs.Decimal.{length-decimal64}
+use Rattle.wording.proofs.DecimalDigits.{length-decimal64}
 use Rattle.wording.proofs.Digits.{length-digitsOf}
 use Rattle.wording.proofs.Wrote.{put-fits, nothing-wrote, put-wrote-if, both-wrote, wrote-front, length-line64}
 use Rattle.keytable.specs.Row.{nameMax, Row}

@@ -20,7 +20,7 @@ use Rattle.wording.specs.Hex.{isHexDigit, digitOf, isHex, hexByte, hexBy
 use Rattle.wording.specs.Lines.{space, newline, line, together}
 use Rattle.wording.specs.Writing.{nowhere, putAt, putAll}
 use Rattle.wording.specs.Laws.{DecimalReads, DecimalDigits, NoZeroBefore, LineReads, DigitsLength, ThereAndBack, ReadTestsRise, ReadUnique, NowhereStays, LastTells, PutUnique}
-use Rattle.wording.proofs.Decimal.{decimal-value, decimal-are, decimal-first}
+use Rattle.wording.proofs.DecimalDigits.{decimal-value, decimal-are, decimal-first}
 use Rattle.wording.proofs.Digits.{digit-counts, length-digitsOf, read-done}
 use Rattle.wording.proofs.Wrote.{put-not, put-fits, put-wrote, wrote-length, Puts, puts, done, puts-wrote}
 

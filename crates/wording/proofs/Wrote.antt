@@ -15,7 +15,7 @@ use Rattle.wording.specs.Decimal.{decimal}
 use Rattle.wording.specs.Hex.{digitOf, digitsOf}
 use Rattle.wording.specs.Lines.{space, newline, line, together}
 use Rattle.wording.specs.Writing.{nowhere, putAt, Wrote, WroteIfFits}
-use Rattle.wording.proofs.Decimal.{length-decimal64}
+use Rattle.wording.proofs.DecimalDigits.{length-decimal64}
 use Rattle.wording.proofs.Digits.{length-digitsOf, digits-turn}
 
 -- ---- one text: it fits, or it does not

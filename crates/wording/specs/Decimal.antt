@@ -17,6 +17,10 @@ isDecimalDigit c = between (code "0") (code "9") c
 abbrev pub decimalDigit : ℕ → ℕ
 decimalDigit d = code "0" + d
 
+-- what such a digit counts
+abbrev pub decimalCounts : ℕ → ℕ
+decimalCounts c = c - code "0"
+
 -- the digits of n, divided by ten at most k times
 unfoldable pub digitsWithin : ℕ → ℕ → List ℕ
 digitsWithin zero n = decimalDigit n ∷ []
@@ -29,7 +33,7 @@ decimal n = digitsWithin n n
 -- the number that digits are read as, after those that made v
 abbrev pub valueAfter : ℕ → List ℕ → ℕ
 valueAfter v [] = v
-valueAfter v (d ∷ s) = valueAfter (v * 10 + (d - code "0")) s
+valueAfter v (d ∷ s) = valueAfter (v * 10 + decimalCounts d) s
 
 abbrev pub valueOf : List ℕ → ℕ
 valueOf s = valueAfter 0 s

@@ -1,8 +1,10 @@
 pub mod Ascii
 pub mod Decimal
+pub mod Number
 pub mod Hex
 pub mod Lines
 pub mod Writing
 pub mod Laws
 pub mod Meaning
 pub mod MeaningLaws
+pub mod NumberLaws

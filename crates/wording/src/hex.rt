@@ -1,23 +1,12 @@
 // Byte strings as hexadecimal digits, two a byte, the more significant first. specs/Hex.antt says which digit is which.
+use crate::decimal::is_decimal;
+use crate::decimal::lies_between;
 ghost use mathlib.Core.Path.{_≡_};
 ghost use Prim.Native.Nat.{_*_, _/_, _%_, _≤_, _<_};
 ghost use lib.ListN.{length};
 ghost use Rattle.octets.specs.Lent.{over};
 ghost use Rattle.octets.specs.Tests.{all};
-ghost use Rattle.wording.specs.Decimal.{between, isDecimalDigit};
 ghost use Rattle.wording.specs.Hex.{isSmallDigit, isCapitalDigit, isHexDigit, digitValue, hexByte, hexBytes, isHex, digitOf, hexRead};
-
-fn lies_between(c: u8, low: u8, high: u8) -> bool
-    ensures { λ r. ⌜ r ≡ between low high c ⌝ }
-{
-    (low <= c) & (c <= high)
-}
-
-fn is_decimal(c: u8) -> bool
-    ensures { λ r. ⌜ r ≡ isDecimalDigit c ⌝ }
-{
-    lies_between(c, b'0', b'9')
-}
 
 fn is_small(c: u8) -> bool
     ensures { λ r. ⌜ r ≡ isSmallDigit c ⌝ }

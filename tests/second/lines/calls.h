@@ -48,35 +48,36 @@ static inline uint64_t any_number(int bytes)
     return n;
 }
 
-/* A line's name is what it is about and its place among the lines. */
-static inline void write_call(const char *about, const char *name, const struct bytes *w, int count, size_t room)
+/* A call with strings, then numbers, then the room of its output. A line's name is what it is about and its place among the lines. */
+static inline void write_whole(const char *about, const char *name, const struct bytes *w, int count,
+                               const unsigned long long *numbers, int more, size_t room)
 {
     printf("%s.%lu %s", about, ++lines, name);
     for (int i = 0; i < count; i++)
         put_hex(w[i].at, w[i].len);
+    for (int i = 0; i < more; i++)
+        printf(" %llu", numbers[i]);
     if (room != NO_OUTPUT)
         printf(" %zu", room);
     putchar('\n');
+}
+
+static inline void write_call(const char *about, const char *name, const struct bytes *w, int count, size_t room)
+{
+    write_whole(about, name, w, count, NULL, 0, room);
 }
 
 /* A call with one string and then numbers. */
 static inline void write_numbered(const char *about, const char *name, struct bytes w, const unsigned long long *numbers,
                                   int count)
 {
-    printf("%s.%lu %s", about, ++lines, name);
-    put_hex(w.at, w.len);
-    for (int i = 0; i < count; i++)
-        printf(" %llu", numbers[i]);
-    putchar('\n');
+    write_whole(about, name, &w, 1, numbers, count, NO_OUTPUT);
 }
 
 /* A lookup: table and name, and then the type. */
 static inline void write_find(const char *about, const struct bytes *w, unsigned type)
 {
-    printf("%s.%lu find", about, ++lines);
-    put_hex(w[0].at, w[0].len);
-    put_hex(w[1].at, w[1].len);
-    printf(" %u\n", type);
+    write_whole(about, "find", w, 2, &(unsigned long long){ type }, 1, NO_OUTPUT);
 }
 
 /* A session's life: the strings that each of its calls is lent, its prefix, start and spent byte, and the calls' rooms. */

@@ -4,8 +4,8 @@
  */
 #include "made_ciphers.h"
 #include "made_lists.h"
-#include "made_pages.h"
 #include "made_records.h"
+#include "made_writings.h"
 
 /* How often each is drawn, among all. */
 static const struct {
@@ -16,7 +16,7 @@ static const struct {
     { 4, any_table_check }, { 6, any_find },
     { 8, any_seal }, { 14, any_open }, { 12, any_verify }, { 5, any_record_check },
     { 4, any_list_check }, { 3, any_list_step }, { 4, any_label_check },
-    { 6, any_page_read }, { 16, any_page_load },
+    { 6, any_page_read }, { 4, any_page_parts }, { 16, any_page_load }, { 9, any_page_write }, { 10, any_page_write_wrapped },
     { 1, any_session_start }, { 2, any_life }, { 7, any_seal_next },
 };
 

@@ -116,6 +116,12 @@ static inline void any_page_read(void)
     write_made("page_read", &page, 1, NO_OUTPUT);
 }
 
+static inline void any_page_parts(void)
+{
+    struct bytes page = any_loading(FLAWS(2, 3, 4)).page;
+    write_made("page_parts", &page, 1, NO_OUTPUT);
+}
+
 static inline void any_page_load(void)
 {
     unsigned flaws = FLAWS(1, 2, 3, 4, 5, 6, 7, 8, 9);

@@ -1,5 +1,5 @@
 /*
- * What the writers of lines on key pages use: the rows that the pages name, pages and their parts, and the two calls as
+ * What the writers of lines on key pages use: the rows that the pages name, pages and their parts, and the calls on them as
  * lines. Nothing is freed: these programs are short.
  */
 #ifndef PAGE_PARTS_H
@@ -40,9 +40,17 @@ static inline void loads(const char *about, struct bytes table, struct bytes pag
     write_call(about, "page_load", w, 2, room);
 }
 
+/* Where a page's parts are. */
+static inline void takes_apart(const char *about, struct bytes page)
+{
+    write_call(about, "page_parts", &page, 1, NO_OUTPUT);
+}
+
+/* What the page is by itself, and its load. */
 static inline void both(const char *about, struct bytes page)
 {
     reads(about, page);
+    takes_apart(about, page);
     loads(about, holders, page, 34);
 }
 
@@ -71,6 +79,20 @@ static inline struct bytes page_of(unsigned index, unsigned format, struct bytes
     head.at[4] = (unsigned char)(byte() % 3 << 5 | byte() % 2), head.at[5] = byte();
     head.at[6] = byte() % 3, head.at[7] = byte() % 4;
     head.at[8] = (unsigned char)index, head.at[9] = (unsigned char)format;
+    put(head.at + 18, 2, key.len);
+    return fitted(joined(joined(head, key), list));
+}
+
+/* A page with fields from SCOPE to KEY FORMAT that fit their bits. */
+static inline struct bytes page_from(const unsigned long long *f, struct bytes key, struct bytes list)
+{
+    struct bytes head = room_for(PAGE_HEAD);
+    memset(head.at, 0, head.len);
+    head.at[1] = 0x10;
+    head.at[4] = (unsigned char)(f[0] << 5 | f[1]);
+    head.at[5] = (unsigned char)(f[2] << 6 | f[3] << 4 | f[4] << 3 | f[5] << 2 | f[6] << 1 | f[7]);
+    for (int i = 0; i < 4; i++)
+        head.at[6 + i] = (unsigned char)f[8 + i];
     put(head.at + 18, 2, key.len);
     return fitted(joined(joined(head, key), list));
 }

@@ -13,6 +13,7 @@ static void printed(void)
     struct bytes page = joined(from_hex(front), room_for(40)), name = { (unsigned char *)"K1", 2 };
     memset(page.at + 26, 0, 40);
     reads("printed", page);
+    takes_apart("printed", page);
     loads("printed", holders, page, 32);
     for (unsigned kind = 0; kind < COUNT(kinds); kind++) {
         struct row row = row_as(name, some(32), kind);
@@ -29,6 +30,7 @@ static void whole(void)
             for (unsigned descriptors = 0; descriptors <= 3; descriptors++) {
                 struct bytes page = good(index, formats[format], descriptors);
                 reads("whole", page);
+                takes_apart("whole", page);
                 for (size_t i = 0; i < COUNT(outs); i++)
                     loads("room", holders, page, outs[i]);
                 loads("no-row", table_of(NULL, 0), page, 32);
@@ -130,6 +132,7 @@ static void names(void)
                 reads("reference", reference);
                 loads("reference", table, reference, 32);
                 reads("identifier", page);
+                takes_apart("identifier", page);
                 loads("identifier", table, page, 32);
             }
         }
@@ -327,6 +330,7 @@ static void flawed(unsigned format, unsigned set, unsigned way)
     if (has[1])
         table = changed(table, 10 + way, 1);
     reads("flaws", page);
+    takes_apart("flaws", page);
     loads("flaws", table, page, has[5] ? rooms[way] : 32);
 }
 

@@ -5,6 +5,7 @@
  * documents 01 and 02 have it: `#= NAME NUMBER`, the output and the numbers stored, as they are after the call. Inputs
  * come from a seed, which is printed.
  */
+#include "answers.h"
 #include "page_parts.h"
 
 /* How many more bytes are lent for a key than it takes. */
@@ -21,24 +22,6 @@ static const struct types mistaken[] = { { 0, { 0 } }, { 1, { 0x03 } }, { 1, { 0
     { 3, { 0x00, 0x30, 0xc0 } }, { 4, { 0x00, 0x01, 0x02, 0x03 } }, { 4, { 0x00, 0x01, 0x02, 0x30 } }, { 2, { 0x03, 0x30 } },
     { 2, { 0x30, 0x03 } }, { 1, { 0x04 } }, { 2, { 0x03, 0x04 } }, { 2, { 0x04, 0x05 } }, { 2, { 0xbf, 0xc0 } },
     { 2, { 0xc0, 0xfe } }, { 3, { 0x04, 0x30, 0xbf } }, { 5, { 0x02, 0x04, 0x30, 0xbf, 0xfe } } };
-
-/* The answer to the line before it: after 0 the output, where one is lent, begins with the result; all else is as lent. */
-static void answers(const char *about, unsigned number, struct bytes result, size_t room, const unsigned long long *stored,
-                    int count)
-{
-    printf("#= %s.%lu %u", about, lines, number);
-    if (room != NO_OUTPUT) {
-        struct bytes out = room_for(room);
-        memset(out.at, 0xa5, room);
-        if (number == 0)
-            memcpy(out.at, result.at, result.len);
-        put_hex(out.at, room);
-        free(out.at);
-    }
-    for (int i = 0; i < count; i++)
-        printf(" %016llx", number == 0 ? stored[i] : 0xa5a5a5a5a5a5a5a5);
-    putchar('\n');
-}
 
 /* A type that has a meaning there, or is a vendor's. */
 static int unreserved(int label, unsigned type)
@@ -180,28 +163,13 @@ struct load {
     unsigned number;
 };
 
-/* The page of a load, with these descriptors. */
-static struct bytes page_from(const struct load *l, struct bytes list)
-{
-    const unsigned long long *f = l->field;
-    struct bytes head = room_for(20);
-    memset(head.at, 0, head.len);
-    head.at[1] = 0x10;
-    head.at[4] = (unsigned char)(f[0] << 5 | f[1]);
-    head.at[5] = (unsigned char)(f[2] << 6 | f[3] << 4 | f[4] << 3 | f[5] << 2 | f[6] << 1 | f[7]);
-    for (int i = 0; i < 4; i++)
-        head.at[6 + i] = (unsigned char)f[8 + i];
-    put(head.at + 18, 2, l->part.len);
-    return fitted(joined(joined(head, l->part), list));
-}
-
 /* A reserved type is 2 whatever else is wrong, but for the table, which is 1. A read gives no number but 0, 2, 3 and 4. */
 static void tried(const char *about, struct load l, struct types t, size_t each)
 {
     struct bytes list = list_of(t.type, t.count, each), page;
     int broken = !rise(&t) || counted(0, &t) < t.count;
     l.field[12] = l.part.len, l.field[13] = counted(0, &t) + (unsigned)l.is_long;
-    page = page_from(&l, l.is_long ? joined(list, descriptor(0xff, some(4096))) : list);
+    page = page_from(l.field, l.part, l.is_long ? joined(list, descriptor(0xff, some(4096))) : list);
     reads(about, page);
     answers(about, broken ? 2 : l.number == 3 || l.number == 4 ? l.number : 0, nothing, NO_OUTPUT, l.field, PAGE_FIELDS);
     loads(about, l.table, page, l.room);
@@ -306,7 +274,7 @@ static void pages(void)
     for (unsigned f = 0; f < 3; f++) {
         struct load l = good_load(formats[f]);
         for (unsigned type = 0; type < 256; type++) {
-            struct bytes inside = descriptor(0xc0, descriptor(type, nothing)), page = page_from(&l, inside);
+            struct bytes inside = descriptor(0xc0, descriptor(type, nothing)), page = page_from(l.field, l.part, inside);
             tried("page-type", l, from_to(type, type), type % 3);
             tried("page-type", l, plus(others, type), type % 3);
             l.field[12] = l.part.len, l.field[13] = 1;

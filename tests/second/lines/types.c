@@ -103,6 +103,21 @@ static void unwrapped(const char *about, struct bytes table, struct seen s, unsi
     answers(about, number, inside, 32 + MORE);
 }
 
+/* A key is wrapped by the key-encrypting key of the type, and by no other; no type but 1 and 2 is one of those. */
+static void wrapped(const char *about, struct bytes table, struct seen s, unsigned type)
+{
+    struct bytes inside = some(32), bytes = room_for(40), w[] = { table, name, inside, nothing }, page = nothing;
+    unsigned long long numbers[] = { 1, 0, 2, 1, 0, 1, 0, 1, 2, 3, 1 + type % 2, WRAPPED_KEY, type };
+    unsigned number = s.refused ? 1 : type < 1 || type > 2 ? 3 : !s.has[type] ? 6 : 0;
+    size_t room = PAGE_HEAD + 4 + name.len + 40 + MORE;
+    if (number == 0) {
+        must(key_wrap(1, key[1 + type].at, inside.at, bytes.at), "wrap");
+        page = page_from(numbers, wrapped_part(type, name, bytes), nothing);
+    }
+    write_whole(about, "page_write_wrapped", w, 4, numbers, COUNT(numbers), room);
+    answers(about, number, page, room);
+}
+
 static void every_call(const char *about, struct bytes table, struct seen s)
 {
     static const unsigned sought[] = { 0, 1, 2, 3, 0x100, 0x101, 0x102, 0x200, 0x8000, 0xffff };
@@ -119,6 +134,8 @@ static void every_call(const char *about, struct bytes table, struct seen s)
     for (unsigned type = 0; type <= 3; type++)
         for (unsigned by = 0; by < COUNT(kinds); by++)
             unwrapped(about, table, s, type, by);
+    for (size_t i = 0; i < COUNT(sought); i++)
+        wrapped(about, table, s, sought[i]);
     loads(about, table, page_of(1, PLAIN_KEY, plain, nothing), 32 + MORE);
     answers(about, s.refused ? 1 : 0, plain, 32 + MORE);
 }

@@ -8,7 +8,7 @@ use borrow.Author.Needs.{needs}
 use lib.ListN.{length}
 use Rattle.descriptor_text.specs.Lines.{descriptorLines}
 use Rattle.wording.specs.Writing.{WroteIfFits}
-use Rattle.descriptor_text.specs.Shown.{shownBy}
+use Rattle.descriptors.specs.Steps.{shownBy}
 use Rattle.descriptor_text.proofs.Written.{lines-turn, lines-end}
 use Rattle.descriptor_text.proofs.stepping.put_all.Statement.{statement}
 use Rattle.descriptor_text.proofs.stepping.put_all.Tie as tie

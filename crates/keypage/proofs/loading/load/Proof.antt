@@ -32,15 +32,15 @@ readable : (c : tie.Else1) → pageReadNumber (page c) ≡ 0
 readable c = sym (c .before .check2 .ensures) ∙ c .if1 .left
 
 of-its-part : (c : tie.After-key-part) (test : ℕ → List ℕ → Bool) → let p = page (c .before .before .before .before) in
-    test (c .before .read82 .result) (c .key-part .result .now) ≡ test (formatIn p) (keyPart p)
-of-its-part c test = ap₂ test (c .before .read82 .ensures .0) (c .key-part .ensures)
+    test (c .before .format-in .result) (c .key-part .result .now) ≡ test (formatIn p) (keyPart p)
+of-its-part c test = ap₂ test (c .before .format-in .ensures) (c .key-part .ensures)
 
 -- and what was loaded from it
 of-its-page : (c : tie.After-key-part) (z : ℕ × List ℕ)
-    → let a = start (c .before .before .before .before .before .before) .args in let f = c .before .read82 .result in let s = c .key-part .result .now in let p = a .p .now in
-    partAnswer (rowNamed (a .table .now) f s) (c .before .before .read8 .result) f s (a .out .now) ≡ z
+    → let a = start (c .before .before .before .before .before .before) .args in let f = c .before .format-in .result in let s = c .key-part .result .now in let p = a .p .now in
+    partAnswer (rowNamed (a .table .now) f s) (c .before .before .algorithm-in .result) f s (a .out .now) ≡ z
     → partAnswer (rowNamed (a .table .now) (formatIn p) (keyPart p)) (algorithmIn p) (formatIn p) (keyPart p) (a .out .now) ≡ z
-of-its-page c z e = rw (← c .before .before .read8 .ensures .0, ← c .before .read82 .ensures .0, ← c .key-part .ensures) e
+of-its-page c z e = rw (← c .before .before .algorithm-in .ensures, ← c .before .format-in .ensures, ← c .key-part .ensures) e
 
 -- the place of the last test before the KEY part
 abbrev past : tie.After-load-part → tie.Else2

@@ -20,7 +20,7 @@ returns-2 c = sym (of-reference _ _ _ _ _ (c .if2 .taken))
 returns-3 : tie.Need-returns-3
 unfolding partRefused
 returns-3 c =
-    ap not (c .is-kek-type .ensures ∙ ap isKekType (c .before .read16 .ensures .0)) ∙ sym (of-wrapped _ _ _ _ _ (c .before .before .if3 .taken))
+    ap not (c .is-kek-type .ensures ∙ ap isKekType (c .before .kek-type .ensures)) ∙ sym (of-wrapped _ _ _ _ _ (c .before .before .if3 .taken))
 
 returns-4 : tie.Need-returns-4
 unfolding partRefused

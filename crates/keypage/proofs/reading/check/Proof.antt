@@ -6,7 +6,8 @@ use mathlib.Core.List.{List}
 use Prim.Native.Nat.{ℕ}
 use lib.Dec.{ltb}
 use lib.ListN.{length}
-use Rattle.keypage.specs.Page.{pageMax, formatIn, keyPart}
+use Rattle.keypage.specs.Layout.{pageMax}
+use Rattle.keypage.specs.Page.{formatIn, keyPart}
 use Rattle.keypage.specs.KeyPart.{partBroken, partRefused, partLong}
 use Rattle.keypage.specs.Read.{broken, refused, long}
 use Rattle.keypage.proofs.ReadNumbers.{page-two, page-three, page-four, page-zero}
@@ -22,8 +23,8 @@ module _ (c : tie.After-part-long) where
   abbrev page : List ℕ
   page = at-part .before .before .before .args .p .now
 
-  of-its-part : (test : ℕ → List ℕ → Bool) → test (at-part .before .read8 .result) (at-part .key-part .result .now) ≡ test (formatIn page) (keyPart page)
-  of-its-part test = ap₂ test (at-part .before .read8 .ensures .0) (at-part .key-part .ensures)
+  of-its-part : (test : ℕ → List ℕ → Bool) → test (at-part .before .format-in .result) (at-part .key-part .result .now) ≡ test (formatIn page) (keyPart page)
+  of-its-part test = ap₂ test (at-part .before .format-in .ensures) (at-part .key-part .ensures)
 
   broken-is : (t : Bool) → (not (c .before .before .before .before .page-ok .result) || c .before .before .before .part-broken .result) ≡ t → broken page ≡ t
   broken-is t e =

@@ -14,10 +14,10 @@ returns c =
     let at-listed = at-size .before .before in
     let at-reserved = at-listed .before .before in
     let p = at-reserved .before .before .before .args .p .now in
-    page-tested p (at-size .before .read16 .result) (at-size .read162 .result) (c .before .read8 .result) (c .read163 .result) (at-reserved .all-zero .result) (at-listed .list-ok .result)
-    (at-size .before .read16 .ensures .0) (at-size .read162 .ensures .0) (c .before .read8 .ensures .0)
+    page-tested p (at-size .before .read16 .result) (at-size .read162 .result) (c .before .bits-in .result) (c .list-at .result) (at-reserved .all-zero .result) (at-listed .list-ok .result)
+    (at-size .before .read16 .ensures .0) (at-size .read162 .ensures .0) (c .before .bits-in .ensures)
     (at-reserved .all-zero .ensures ∙ ap zeros (at-reserved .before .part .ensures))
-    (c .read163 .ensures .0)
+    (c .list-at .ensures)
     (at-listed .list-ok .ensures ∙ ap pageListOk (at-listed .before .list-in .ensures))
 
 pub page-ok-spec : {M : Type 1} → statement M
@@ -33,5 +33,4 @@ page-ok-spec =
     (λ c. search needs)
     (λ c κs. search needs)
     (λ c κs. search needs)
-    (λ c. search needs)
     returns)

@@ -1,49 +1,33 @@
 -- `keypage::wrapped::load_wrapped` meets its contract: at each return the tests passed and the one met say which number is the lowest; the last is that of the unwrapping.
 -- Assumes nothing.
-use mathlib.Core.Path.{_≡_, sym, ap, ap₂, _∙_}
+use mathlib.Core.Path.{_≡_, sym, ap₂, _∙_}
 use mathlib.Core.List.{List}
-use Prim.Native.Nat.{ℕ, _+_}
-use lib.ListN.{drop}
-use Rattle.octets.specs.Tests.{partOf}
+use Prim.Native.Nat.{ℕ}
 use Rattle.octets.proofs.Places.{its-bytes}
 use Rattle.keytable.specs.Table.{rowFor}
 use Rattle.keytable.specs.Find.{foundSays, foundAnswer}
 use Rattle.keywrap.specs.Calls.{unwrapAnswer}
-use Rattle.keypage.specs.KeyPart.{identifierOf, wrappedOf}
 use Rattle.keypage.specs.Load.{kekRow}
-use Rattle.octets.proofs.Tests.{part-rest}
 use Rattle.keypage.proofs.LoadNumbers.{wrapped-six, wrapped-rest}
 use Rattle.keytable.proofs.RowFound.{no-row, the-row, row-key}
 use borrow.Author.Needs.{needs}
 use Rattle.keypage.proofs.wrapped.load_wrapped.Statement.{statement}
 use Rattle.keypage.proofs.wrapped.load_wrapped.Tie as tie
 
-abbrev start : tie.After-part → tie.Start
-start c = c .before .before .before .before .before .before
+abbrev start : tie.After-identifier → tie.Start
+start c = c .before .before .before .before .before
 
 -- the type that was read
-abbrev sought : tie.After-part → ℕ
-sought c = c .before .before .read16 .result
+abbrev sought : tie.After-identifier → ℕ
+sought c = c .before .kek-type .result
 
--- the row that is looked up is that of the type and the identifier, and what is passed on is the rest
-looked-for : (c : tie.After-part) → let a = start c .args in
-    kekRow (a .table .now) (a .s .now) ≡ rowFor (a .table .now) (sought c) (c .part .result .now)
-looked-for c =
-    let a = start c .args in
-    let name-is : c .part .result .now ≡ identifierOf (a .s .now) = c .part .ensures ∙ ap (partOf (a .s .now) 4) (c .before .read162 .ensures .0) in
-    ap₂ (rowFor (a .table .now)) (sym (c .before .before .read16 .ensures .0)) (sym name-is)
-
-abbrev looked : tie.After-part2 → tie.After-part
-looked c = c .before .before .before .before .before .before
-
-rest-is : (c : tie.After-part2) → c .part2 .result .now ≡ wrappedOf (start (looked c) .args .s .now)
-rest-is c =
-    let s = start (looked c) .args .s .now in
-    let at-count = looked c .before in
-    c .part2 .ensures ∙ part-rest s (4 + at-count .read162 .result) ∙ ap (λ (n : ℕ). drop (4 + n) s) (at-count .read162 .ensures .0)
+-- the row that is looked up is that of the type and the identifier
+looked-for : (c : tie.After-identifier) → let a = start c .args in
+    kekRow (a .table .now) (a .s .now) ≡ rowFor (a .table .now) (sought c) (c .identifier .result .now)
+looked-for c = ap₂ (rowFor (start c .args .table .now)) (sym (c .before .kek-type .ensures)) (sym (c .identifier .ensures))
 
 -- what was looked up is what the table has for them
-found-is : (c : tie.After-find) → foundSays (c .find .result) ≡ foundAnswer (start (c .before) .args .table .now) (sought (c .before)) (c .before .part .result .now)
+found-is : (c : tie.After-find) → foundSays (c .find .result) ≡ foundAnswer (start (c .before) .args .table .now) (sought (c .before)) (c .before .identifier .result .now)
 found-is c = c .find .ensures
 
 returns : tie.Need-returns
@@ -66,7 +50,7 @@ returns-2 c algorithm =
     let row = the-row _ _ _ _ (from .pre .0) (found-is at-find) _ (at .at .given .1) in
     let size = row-key _ _ _ _ (from .pre .0) (found-is at-find) _ (at .at .given .1) in
     wrapped-rest _ algorithm (a .s .now) (a .out .now) _ (looked-for (at-find .before) ∙ row) size (from .pre .1)
-    ∙ ap₂ (λ (k w : List ℕ). unwrapAnswer k w (a .out .now)) (sym (its-bytes (at-key .key-at .ensures))) (sym (rest-is at-rest))
+    ∙ ap₂ (λ (k w : List ℕ). unwrapAnswer k w (a .out .now)) (sym (its-bytes (at-key .key-at .ensures))) (sym (at-rest .wrapped .ensures))
     ∙ at-unwrap .unwrap .ensures
 
 pub load-wrapped-spec : {M : Type 1} → statement M
@@ -76,11 +60,9 @@ load-wrapped-spec =
     (λ c κs. search needs)
     (λ c κs. search needs)
     (λ c κs. search needs)
-    (λ c κs. search needs)
     (λ c. search needs)
     returns
     (λ c κs. search needs)
-    (λ c. search needs)
     (λ c κs. search needs)
     (λ c κs. search needs)
     (λ c. search needs)

@@ -9,7 +9,6 @@ use lib.ListN.{length}
 use Rattle.octets.specs.Lent.{over}
 use Rattle.octets.proofs.Lent.{length-over}
 use Rattle.record.specs.Record.{recordFront}
-use Rattle.record.proofs.Written.{length-front}
 use Rattle.record.proofs.Filled.{front-cut, filled}
 use Rattle.record.proofs.sealing.fill.Statement.{statement}
 use Rattle.record.proofs.sealing.fill.Tie as tie
@@ -24,12 +23,6 @@ is-front c =
     let made = c .before .before in
     let a = start c .args in
     c .part .ensures ∙ front-cut (a .u) (a .name .now) (length (a .plain .now)) _ (start c .pre .1) (made .front-of .ensures)
-
-put-both-requires : tie.Need-put-both-requires
-put-both-requires c κs =
-    let s = start (c .before) in
-    let a = s .args in
-    omega (arith, s .pre .2, s .pre .6, ap length (is-front (c .before)), length-front (a .u) (a .name .now) (length (a .plain .now)))
 
 sub-encrypt : tie.Need-sub-encrypt
 sub-encrypt c =
@@ -61,7 +54,7 @@ fill-spec =
     (λ c. search needs)
     (λ c. search needs)
     (λ c κs. search needs)
-    put-both-requires
+    (λ c κs. search needs)
     sub-encrypt
     part-encrypt-start
     (λ c. search needs)

@@ -8,7 +8,7 @@ use lib.ListN.{length-set}
 use borrow.Author.Needs.{needs}
 use denote.Ref.{now}
 use Rattle.wording.specs.Writing.{putAt}
-use Rattle.wording.proofs.Decimal.{Found, found-none, found-left, found-turn, found-end}
+use Rattle.wording.proofs.DecimalDigits.{Found, found-none, found-left, found-turn, found-end}
 use Rattle.wording.proofs.writing.put_decimal.Statement.{statement}
 use Rattle.wording.proofs.writing.put_decimal.Tie as tie
 

@@ -1,0 +1,12 @@
+pub mod Head
+pub mod ReadHead
+pub mod Parts
+pub mod Read
+pub mod WriteNumbers
+pub mod Answers
+pub mod Written
+pub mod Exactly
+pub mod Again
+pub mod PartBack
+pub mod ByRow
+pub mod Laws
