@@ -388,14 +388,14 @@ uint8_t spadeswirl_page_parts(const uint8_t *page, size_t page_len,
 /*
  * Writes a key page: of its first fields, as spadeswirl_page_read stores them,
  * of a KEY part as it stands, and of descriptors end to end. Fills the first *n
- * bytes of the output, SPADESWIRL_PAGE_HEADER_BYTES and what both have, and
- * stores n.
- * No table is looked at, and a wrapped key is carried as it is. Numbers: 0; 2
- * for a KEY part or a list that breaks its layout; 3 for a field, a format or a
- * KEK type that is not permitted, or a field that is too wide for its bits; 4
- * for a page of over SPADESWIRL_PAGE_MAX, or a long reference or identifier; 5;
- * 8 for a wrapped key that has not SPADESWIRL_WRAPPED_BYTES. What this call
- * writes spadeswirl_page_read reads with 0, and it stores the same fields.
+ * bytes of the output and stores n, SPADESWIRL_PAGE_HEADER_BYTES and as many as
+ * the KEY part and the list have. It takes no table, and a wrapped key is
+ * carried as it is. Numbers: 0; 2 for a KEY part or a list that breaks its
+ * layout, or a reserved type; 3 for a field, a format or a KEK type that is not
+ * permitted, or a field that is too wide for its bits; 4 for a page of more than
+ * SPADESWIRL_PAGE_MAX, or a long reference or identifier; 5; 8 for a wrapped key
+ * that has not SPADESWIRL_WRAPPED_BYTES. What this call writes
+ * spadeswirl_page_read reads with 0, and it stores the same fields.
  */
 uint8_t spadeswirl_page_write(const uint64_t fields[SPADESWIRL_FIELDS_CHOSEN],
                               const uint8_t *key_part, size_t key_part_len,
@@ -406,10 +406,11 @@ uint8_t spadeswirl_page_write(const uint64_t fields[SPADESWIRL_FIELDS_CHOSEN],
  * Wraps a key by the row of that KEK type and exactly that identifier, and
  * writes its page: what spadeswirl_page_write writes of the KEY part that is so
  * made. With the same table spadeswirl_page_load gives the key back. Numbers: 0;
- * 1; 2 for a key that has not SPADESWIRL_KEY_BYTES, an empty identifier or a
- * list that breaks its layout; 3 for a KEY FORMAT other than
- * SPADESWIRL_FORMAT_WRAPPED, a type that no key-encrypting key has, and else as
- * for spadeswirl_page_write; 4; 5; 6.
+ * 1; 2 for a key that has not SPADESWIRL_KEY_BYTES, an empty identifier, a list
+ * that breaks its layout, or a reserved type; 3 for a KEY FORMAT other than
+ * SPADESWIRL_FORMAT_WRAPPED, a type that no key-encrypting key has, and a field
+ * as for spadeswirl_page_write; 4 for a page of more than SPADESWIRL_PAGE_MAX or
+ * a long identifier; 5; 6.
  */
 uint8_t spadeswirl_page_write_wrapped(const uint8_t *table, size_t table_len,
                                       const uint64_t fields[SPADESWIRL_FIELDS_CHOSEN],

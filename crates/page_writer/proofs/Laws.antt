@@ -12,7 +12,7 @@ use Rattle.octets.proofs.Bytes.{bytes-cons, bytes-append, bytes-zeros}
 use Rattle.octets.proofs.BigEndian.{bytes-be}
 use Rattle.octets.proofs.Unique.{unique}
 use Rattle.keytable.specs.Row.{Row}
-use Rattle.keytable.specs.Table.{rowFor}
+use Rattle.keytable.specs.Table.{tableOk, rowFor}
 use Rattle.keytable.proofs.RowFound.{row-key-bytes}
 use Rattle.keywrap.specs.Wrap as wrap
 use Rattle.keywrap.proofs.Laws.{wrapped-bytes}
@@ -23,15 +23,13 @@ use Rattle.keypage.specs.Laws.{Given}
 use Rattle.keypage.proofs.Laws.{loads-plain, loads-wrapped}
 use Rattle.page_writer.specs.Written.{headOf, pageSize, pageOf, wrappedPart}
 use Rattle.page_writer.specs.Write.{fieldsFit, writeAnswer, partBy, writeWrappedRow, writeWrappedAnswer}
-use Rattle.page_writer.specs.Laws.{WrittenLoads, WrappedGivesBack, WrappedLoads, WriteOtherRows, PageLength}
+use Rattle.page_writer.specs.Laws.{WrittenLoads, Wrappable, WrappedGivesBack, WrappedLoads, WriteOtherRows, PageLength}
 use Rattle.page_writer.specs.Laws.{ReadersTestsRise, WriteTestsRise, WrappingTestsRise, WriteWrappedTestsRise, WriteUnique, WriteWrappedUnique}
 use Rattle.page_writer.proofs.Head.{fit-at, head-list}
 use Rattle.page_writer.proofs.Parts.{length-page}
 use Rattle.page_writer.proofs.Read.{format-back, part-back}
-use Rattle.page_writer.proofs.WriteNumbers.{wrapping-key}
 use Rattle.page_writer.proofs.Written.{passed-fit, passed-short, passed-reads, answer-passed, front-is, written-gives-back}
-use Rattle.page_writer.proofs.PartBack.{parts-back}
-use Rattle.page_writer.proofs.ByRow.{by-table, by-passed, is-wrapped, short, kind, wraps-and-writes}
+use Rattle.page_writer.proofs.ByRow.{part-made, wraps-as-writes, wraps-and-writes}
 
 pub page-length : PageLength
 page-length = length-page
@@ -69,33 +67,42 @@ written-loads t v part list out after room fields n m size e is accepted roomy =
     rw (front-is v part list out after n m e)
     (rw (part-back v part list fit small) at (loads-plain t p room fields given (format-back v part list fit small ∙ is)))
 
+-- what was wrapped is what writing made of the KEY part
+module _ (t v : List ℕ) (type : ℕ) (identifier key list out after : List ℕ) (n m : ℕ) (e : writeWrappedAnswer t v type identifier key list out n ≡ ((0, after), m)) where
+  abbrev told : (row : Row) × (tableOk t ≡ true) × (rowFor t type identifier ≡ some row) × Wrappable v type identifier key
+  told = wraps-and-writes t v type identifier key list out after n m e
+
+  abbrev made : List ℕ
+  made = partBy (some (told .0)) type identifier key
+
+  by-writing : writeAnswer v made list out n ≡ ((0, after), m)
+  by-writing = sym (wraps-as-writes t v type identifier key list out n (told .0) (told .1) (told .2) (told .3)) ∙ e
+
 pub wrapped-gives-back : WrappedGivesBack
 wrapped-gives-back t v type identifier key list out after n m size e =
-    let (row, has, writes) = wraps-and-writes t v type identifier key list out after n m e in
-    (row, has, written-gives-back v (partBy (some row) type identifier key) list out after n m size writes)
+    let (row, accepted, has, h) = told t v type identifier key list out after n m e in
+    (row, has, written-gives-back v (partBy (some row) type identifier key) list out after n m size (by-writing t v type identifier key list out after n m e))
 
 pub wrapped-loads : WrappedLoads
 wrapped-loads t v type identifier key list out after room fields n m bytes-t bytes-i bytes-k bytes-l size e roomy =
-    let (row, has, writes) = wraps-and-writes t v type identifier key list out after n m e in
-    let passed = by-passed t v type identifier key list out after n m e in
+    let (row, accepted, has, wrappable) = told t v type identifier key list out after n m e in
+    let writes = by-writing t v type identifier key list out after n m e in
     let w = wrap.wrapped (row .rowKey) key in
     let s = partBy (some row) type identifier key in
     let p = pageOf v s list in
     let h = answer-passed v s list out after n m writes in
     let fit = passed-fit v s list (length out) h in
     let small = passed-short v s list (length out) h in
-    let given : Given t p room =
-    record { table-accepted = by-table t v type identifier key list out after n m e; readable = passed-reads v s list (length out) h; key-fits = roomy } in
+    let given : Given t p room = record { table-accepted = accepted; readable = passed-reads v s list (length out) h; key-fits = roomy } in
     let kek-bytes = row-key-bytes t type identifier row bytes-t has in
     let bytes-p = page-bytes v s list fit (part-bytes type identifier w bytes-i (wrapped-bytes (row .rowKey) key kek-bytes bytes-k)) bytes-l in
-    let back =
-    parts-back type identifier w (omega (arith, kind v type identifier key list (length out) passed row .1)) (omega (arith, short v type identifier key list (length out) passed row)) in
+    let back = part-made v type identifier key list wrappable row in
     let part-is = part-back v s list fit small in
-    let format-is = format-back v s list fit small ∙ is-wrapped v type identifier key list (length out) passed row in
     let matched : kekRow t (keyPart p) ≡ some row = ap (kekRow t) part-is ∙ ap₂ (rowFor t) (back .type-back) (back .identifier-back) ∙ has in
     let wraps : wrap.wrapped (row .rowKey) key ≡ wrappedOf (keyPart p) = sym (ap wrappedOf part-is ∙ back .wrapped-back) in
     rw (front-is v s list out after n m writes)
-    (loads-wrapped t p room fields key given bytes-t bytes-p format-is .1 (row, matched, record { size = wrapping-key v type identifier key list (length out) passed; bytes = bytes-k; wraps = wraps }))
+    (loads-wrapped t p room fields key given bytes-t bytes-p (format-back v s list fit small ∙ wrappable .format) .1
+    (row, matched, record { size = wrappable .key-size; bytes = bytes-k; wraps = wraps }))
 
 -- ---- other rows
 

@@ -1,4 +1,4 @@
--- What writing a key page promises (document 02, No. 3), as statements; proofs/Laws.antt, Again.antt and Back.antt prove them.
+-- What writing a key page promises (document 02, No. 3), as statements; proofs/Laws.antt proves them, with Read, Written, Exactly, Again, PartBack and ByRow.
 -- Assumes nothing.
 use mathlib.Core.Path.{_≡_}
 use mathlib.Core.Logic.{_↔_}
@@ -11,9 +11,9 @@ use Rattle.octets.specs.Bytes.{Bytes}
 use Rattle.octets.specs.Lent.{lowest, over}
 use Rattle.octets.specs.Lowest.{rises}
 use Rattle.octets.specs.Unique.{Unique}
-use Rattle.keytable.specs.Row.{rowKeySize, Row}
+use Rattle.keytable.specs.Row.{nameMax, rowKeySize, isKekType, Row}
 use Rattle.keytable.specs.Table.{tableOk, rowFor}
-use Rattle.keywrap.specs.Calls.{wrappedSize}
+use Rattle.keywrap.specs.Calls.{keySize, wrappedSize}
 use Rattle.descriptors.specs.Steps.{cursorAtStart, shownBy}
 use Rattle.keypage.specs.Layout.{beforeLength, pageMax, chosenBits}
 use Rattle.keypage.specs.Page.{formatIn, chosenIn, keyPart, listIn, pageStrict, pageListCount}
@@ -124,11 +124,26 @@ PageAgain = (p : List ℕ) → Bytes p → pageReadNumber p ≡ 0 → pageOf (ch
 
 -- ---- wrapping
 
--- with the row, wrapping a key into a page is writing the page of the KEY part that the row makes of it
+-- a format and a type of a wrapped key's, an identifier within its bounds, and a key of 32 bytes
+pub record Wrappable (v : List ℕ) (type : ℕ) (identifier key : List ℕ) : Type 0 where
+  pub format : formatGiven v ≡ wrappedFormat
+  pub kek-type : isKekType type ≡ true
+  pub named : 1 ≤ length identifier
+  pub named-short : length identifier ≤ nameMax
+  pub key-size : length key ≡ keySize
+
+-- with these and the row, wrapping a key into a page is writing the page of the KEY part that the row makes of it, refusals too
+abbrev pub WrapsAsWrites : Type 0
+WrapsAsWrites =
+    (t v : List ℕ) (type : ℕ) (identifier key list out : List ℕ) (n : ℕ) (row : Row) → tableOk t ≡ true → rowFor t type identifier ≡ some row
+    → Wrappable v type identifier key
+    → writeWrappedAnswer t v type identifier key list out n ≡ writeAnswer v (partBy (some row) type identifier key) list out n
+
+-- and 0 says that they are so
 abbrev pub WrapsAndWrites : Type 0
 WrapsAndWrites =
     (t v : List ℕ) (type : ℕ) (identifier key list out after : List ℕ) (n m : ℕ) → writeWrappedAnswer t v type identifier key list out n ≡ ((0, after), m)
-    → (row : Row) × (rowFor t type identifier ≡ some row) × (writeAnswer v (partBy (some row) type identifier key) list out n ≡ ((0, after), m))
+    → (row : Row) × (tableOk t ≡ true) × (rowFor t type identifier ≡ some row) × Wrappable v type identifier key
 
 -- document 01: "Between two accepted tables with the same row for a name, or both with none, the other rows change no answer for that name."
 abbrev pub WriteOtherRows : Type 0
