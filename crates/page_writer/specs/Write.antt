@@ -33,6 +33,7 @@ fitTests (b ∷ bs) v i = ltb (getD v i 0) (span b) ∷ fitTests bs v (suc i)
 unfoldable pub fieldsFit : List ℕ → Bool
 fieldsFit v = every (fitTests chosenBits v 0)
 
+-- scope, both modes and the algorithm index, which have these numbers among the twelve
 unfoldable pub fieldsPermitted : List ℕ → Bool
 fieldsPermitted v = every (permitted (getD v 0 0) (getD v 8 0) (getD v 9 0) (getD v 10 0))
 
