@@ -39,8 +39,8 @@ module _ (t : Tables) (right : Right t) (a b c d : ℕ) (ha : a < 256) (hb : b <
   lastColumnBy-right =
       ap (λ (x : Column). addColumn x k)
       (four
-      (ap (λ (x : Column). getD x 1 0) (entry-0 t right a ha)) (ap (λ (x : Column). getD x 1 0) (entry-0 t right b hb))
-      (ap (λ (x : Column). getD x 1 0) (entry-0 t right c hc)) (ap (λ (x : Column). getD x 1 0) (entry-0 t right d hd)))
+      (ap (λ (x : Column). getD x 0 0) (entry-2 t right a ha)) (ap (λ (x : Column). getD x 1 0) (entry-3 t right b hb))
+      (ap (λ (x : Column). getD x 2 0) (entry-0 t right c hc)) (ap (λ (x : Column). getD x 3 0) (entry-1 t right d hd)))
 
 -- ---- one round, of a state
 

@@ -3,6 +3,7 @@ mod Entries
 mod Pairs
 mod Steps
 mod Shared
+mod Fed
 mod Restored
 mod Strings
 mod Starts

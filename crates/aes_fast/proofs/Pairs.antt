@@ -20,16 +20,16 @@ use Rattle.aes_fast.proofs.Columns.{columnFrom-xor}
 
 -- ---- the rows of the low column, and of the high one
 
-row-0 : (w : ℕ) → w % 256 ≡ getD (columnFrom w) 0 0
+pub row-0 : (w : ℕ) → w % 256 ≡ getD (columnFrom w) 0 0
 row-0 w = ap (λ (a : Column). getD a 0 0) (sym (columnFrom-is w))
 
 pub row-1 : (w : ℕ) → w / 256 % 256 ≡ getD (columnFrom w) 1 0
 row-1 w = ap (λ (a : Column). getD a 1 0) (sym (columnFrom-is w))
 
-row-2 : (w : ℕ) → w / 65536 % 256 ≡ getD (columnFrom w) 2 0
+pub row-2 : (w : ℕ) → w / 65536 % 256 ≡ getD (columnFrom w) 2 0
 row-2 w = ap (λ (a : Column). getD a 2 0) (sym (columnFrom-is w))
 
-row-3 : (w : ℕ) → w / 16777216 % 256 ≡ getD (columnFrom w) 3 0
+pub row-3 : (w : ℕ) → w / 16777216 % 256 ≡ getD (columnFrom w) 3 0
 row-3 w = ap (λ (a : Column). getD a 3 0) (sym (columnFrom-is w))
 
 place-5 : (w : ℕ) → w / 1099511627776 ≡ w / 4294967296 / 256

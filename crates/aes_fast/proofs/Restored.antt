@@ -75,8 +75,8 @@ bytes-mixedBy t a b c d k hk =
 
 bytes-lastColumnBy : (t : Tables) (a b c d : ℕ) (k : Column) → Bytes k → Bytes (lastColumnBy t a b c d k)
 bytes-lastColumnBy t a b c d k hk =
-    let row : (n : ℕ) → getD (tableEntry t 0 n) 1 0 < 256 = λ n. bytes-columnFrom (getD (getD t 0 []) n 0) .byte 1 in
-    bytes-addColumn (bytes-cons (row a) (bytes-cons (row b) (bytes-cons (row c) (bytes-cons (row d) bytes-nil)))) hk
+    let row : (m n r : ℕ) → getD (tableEntry t m n) r 0 < 256 = λ m n r. bytes-columnFrom (getD (getD t m []) n 0) .byte r in
+    bytes-addColumn (bytes-cons (row 2 a 0) (bytes-cons (row 3 b 1) (bytes-cons (row 0 c 2) (bytes-cons (row 1 d 3) bytes-nil)))) hk
 
 module _ (t : Tables) (ks : List State) (b : List ℕ) where
   pub length-cipherBy : length (cipherBy t ks b) ≡ 16

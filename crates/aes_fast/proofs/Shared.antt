@@ -16,7 +16,7 @@ use Rattle.aes_fast.specs.Start.{columnAdds}
 
 -- ---- of numbers: in the sum of a, b, c, d and k one term is taken away and another put there
 
-swap : (p x y : ℕ) → bitXor (bitXor p x) y ≡ bitXor (bitXor p y) x
+pub swap : (p x y : ℕ) → bitXor (bitXor p x) y ≡ bitXor (bitXor p y) x
 swap p x y = xor-assoc p x y ∙ ap (bitXor p) (xor-comm x y) ∙ sym (xor-assoc p y x)
 
 renew : (p d d′ k : ℕ) → bitXor (bitXor (bitXor (bitXor p d) k) d) d′ ≡ bitXor (bitXor p d′) k
@@ -46,10 +46,10 @@ renew-a a b c d k a′ =
 
 -- ---- of columns
 
-columns : (f g : ℕ → ℕ) → ((r : ℕ) → f r ≡ g r) → columnOf f ≡ columnOf g
+pub columns : (f g : ℕ → ℕ) → ((r : ℕ) → f r ≡ g r) → columnOf f ≡ columnOf g
 columns f g h = four (h 0) (h 1) (h 2) (h 3)
 
-abbrev sum : Column → Column → Column → Column → Column → Column
+abbrev pub sum : Column → Column → Column → Column → Column → Column
 sum a b c d k = addColumn (addColumn (addColumn (addColumn a b) c) d) k
 
 module _ (a b c d k x : Column) where

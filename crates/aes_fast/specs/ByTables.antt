@@ -27,9 +27,9 @@ shifted s c r = getD (column s ((c + r) % 4)) r 0
 abbrev pub mixedBy : Tables → ℕ → ℕ → ℕ → ℕ → Column
 mixedBy t a b c d = addColumn (addColumn (addColumn (tableEntry t 0 a) (tableEntry t 1 b)) (tableEntry t 2 c)) (tableEntry t 3 d)
 
--- and row 1 of what table 0 has for each
+-- and of each, in its own row, what a table has there that adds it once
 abbrev pub substitutedBy : Tables → ℕ → ℕ → ℕ → ℕ → Column
-substitutedBy t a b c d = getD (tableEntry t 0 a) 1 0 ∷ getD (tableEntry t 0 b) 1 0 ∷ getD (tableEntry t 0 c) 1 0 ∷ getD (tableEntry t 0 d) 1 0 ∷ []
+substitutedBy t a b c d = getD (tableEntry t 2 a) 0 0 ∷ getD (tableEntry t 3 b) 1 0 ∷ getD (tableEntry t 0 c) 2 0 ∷ getD (tableEntry t 1 d) 3 0 ∷ []
 
 -- a column of a round, and of the last round, with the key
 abbrev pub roundColumnBy : Tables → ℕ → ℕ → ℕ → ℕ → Column → Column
@@ -43,6 +43,15 @@ roundBy t s k = stateOf (λ c. roundColumnBy t (shifted s c 0) (shifted s c 1) (
 
 unfoldable pub lastRoundBy : Tables → State → State → State
 lastRoundBy t s k = stateOf (λ c. lastColumnBy t (shifted s c 0) (shifted s c 1) (shifted s c 2) (shifted s c 3) (column k c))
+
+-- the columns of a round as one column of the state after the other is added to them: x has first the one to which row 0 of the column a goes, and the result
+-- the next one
+abbrev pub columnFed : Tables → State → Column → State
+columnFed t x a =
+    addColumn (column x 1) (tableEntry t 3 (getD a 3 0))
+    ∷ addColumn (column x 2) (tableEntry t 2 (getD a 2 0))
+    ∷ addColumn (column x 3) (tableEntry t 1 (getD a 1 0))
+    ∷ addColumn (column x 0) (tableEntry t 0 (getD a 0 0)) ∷ []
 
 -- rounds 1 to n
 unfoldable pub roundsBy : Tables → List State → ℕ → State → State

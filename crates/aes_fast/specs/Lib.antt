@@ -1,5 +1,6 @@
 pub mod ByTables
 pub mod Right
 pub mod Halves
+pub mod FourWords
 pub mod Start
 pub mod Laws

@@ -1,4 +1,5 @@
 // AES-256 by constant tables of words that a caller lends down, one block or two at a time.
+mod four_words;
 pub mod halves;
 mod rounds;
 mod row_0;
@@ -8,6 +9,8 @@ mod row_3;
 pub mod start;
 mod words;
 
+use aes::LAST_ROUND;
+use aes::MIDDLE_ROUNDS;
 use aes::RoundKeys;
 use halves::Both;
 use halves::Halves;
@@ -16,6 +19,7 @@ use halves::block;
 use halves::halves_from;
 use halves::halves_of;
 use octets::strings::Block;
+use rounds::last_round;
 use rounds::round;
 use rounds::rounds_after;
 use rounds::rounds_after_two;
@@ -65,16 +69,27 @@ pub fn encrypt_two_from(t: &Tables, ks: &RoundKeys, s: Start, low: u8, next: u8)
     rounds_after_two(t, ks, both)
 }
 
-// Any block, beside one that begins with others.
+// Any block, beside one that begins with others. The rounds of both have their loop here: in a function that others call too, the compiler would leave a call
+// for each block.
 pub fn encrypt_beside(t: &Tables, ks: &RoundKeys, b: Halves, s: Start, low: u8) -> Both
     ensures { λ r. ⌜ (halvesBlock (r .one) ≡ cipherBy (now (t .entry)) (now (ks .entry)) (halvesBlock b)) × (halvesBlock (r .other) ≡ cipherFrom (now (t .entry)) (now (ks .entry)) s low) ⌝ }
 {
-    let x = add_halves(b, halves_of(ks[0]));
-    let y = round(t, x, halves_of(ks[1]));
-    let z = round(t, y, halves_of(ks[2]));
-    let both = Both {
-        one: z,
-        other: begun(t, s, low),
-    };
-    rounds_after_two(t, ks, both)
+    let none = add_halves(b, halves_of(ks[0]));
+    let one = round(t, none, halves_of(ks[1]));
+    let mut x = round(t, one, halves_of(ks[2]));
+    let mut y = begun(t, s, low);
+    let mut i: usize = 2;
+    while i < MIDDLE_ROUNDS {
+        let k = halves_of(ks[i + 1]);
+        let u = round(t, x, k);
+        let v = round(t, y, k);
+        x = u;
+        y = v;
+        i += 1;
+    }
+    let k = halves_of(ks[LAST_ROUND]);
+    Both {
+        one: last_round(t, x, k),
+        other: last_round(t, y, k),
+    }
 }

@@ -1,19 +1,21 @@
 // The rounds by tables, over a state in two words. A byte of a word is its place in a table.
 use crate::Tables;
+use crate::four_words::FourWords;
+use crate::four_words::four_words_from;
+use crate::four_words::four_words_of;
 use crate::halves::Both;
 use crate::halves::Halves;
 use crate::halves::add_halves;
 use crate::halves::from_columns;
 use crate::halves::halves_of;
-use crate::words::word_of;
 use aes::LAST_ROUND;
 use aes::MIDDLE_ROUNDS;
 use aes::RoundKeys;
 ghost use mathlib.Core.Path.{_≡_};
 ghost use Prim.Native.Nat.{_%_, _≤_};
-ghost use lib.ListN.{getD};
-ghost use Rattle.aes_fast.specs.ByTables.{columnFrom, tableEntry, mixedBy, substitutedBy, roundBy, lastRoundBy, laterRoundsBy};
+ghost use Rattle.aes_fast.specs.ByTables.{columnFrom, mixedBy, substitutedBy, roundBy, lastRoundBy, columnFed, laterRoundsBy};
 ghost use Rattle.aes_fast.specs.Halves.{columnsOf};
+ghost use Rattle.aes_fast.specs.FourWords.{columnsIn};
 
 fn mixed_column(t: &Tables, a: u64, b: u64, c: u64, d: u64) -> u32
     ensures { λ r. ⌜ columnFrom r ≡ mixedBy (now (t .entry)) (a % 256) (b % 256) (c % 256) (d % 256) ⌝ }
@@ -48,20 +50,17 @@ pub(crate) fn round(t: &Tables, s: Halves, k: Halves) -> Halves
     add_halves(from_columns(c0, c1, c2, c3), k)
 }
 
-// Row 1 of what table 0 has for a byte.
-fn row_one(t: &Tables, a: u64) -> u8
-    ensures { λ r. ⌜ r ≡ getD (tableEntry (now (t .entry)) 0 (a % 256)) 1 0 ⌝ }
-{
-    (t[0][(a % 256) as usize] / 256 % 256) as u8
-}
-
+// A column of the last round: from each table's word the row in which it has the byte's S-box value, once.
 fn last_column(t: &Tables, a: u64, b: u64, c: u64, d: u64) -> u32
     ensures { λ r. ⌜ columnFrom r ≡ substitutedBy (now (t .entry)) (a % 256) (b % 256) (c % 256) (d % 256) ⌝ }
 {
-    word_of(row_one(t, a), row_one(t, b), row_one(t, c), row_one(t, d))
+    t[2][(a % 256) as usize] % 256
+        + t[3][(b % 256) as usize] / 256 % 256 * 256
+        + t[0][(c % 256) as usize] / 65536 % 256 * 65536
+        + t[1][(d % 256) as usize] / 16777216 % 256 * 16777216
 }
 
-fn last_round(t: &Tables, s: Halves, k: Halves) -> Halves
+pub(crate) fn last_round(t: &Tables, s: Halves, k: Halves) -> Halves
     ensures { λ r. ⌜ columnsOf r ≡ lastRoundBy (now (t .entry)) (columnsOf s) (columnsOf k) ⌝ }
 {
     let a = s.first;
@@ -85,19 +84,41 @@ fn last_round(t: &Tables, s: Halves, k: Halves) -> Halves
     add_halves(from_columns(c0, c1, c2, c3), k)
 }
 
+// What the word u, a column, adds to the columns of the next round.
+fn feed(t: &Tables, x: FourWords, u: u32) -> FourWords
+    ensures { λ r. ⌜ columnsIn r ≡ columnFed (now (t .entry)) (columnsIn x) (columnFrom u) ⌝ }
+{
+    let d = x.a ^ t[0][(u % 256) as usize];
+    let c = x.d ^ t[1][(u / 256 % 256) as usize];
+    let b = x.c ^ t[2][(u / 65536 % 256) as usize];
+    let a = x.b ^ t[3][(u / 16777216 % 256) as usize];
+    FourWords { a, b, c, d }
+}
+
+// A round of a state in four words: its columns one after the other, beginning with the key.
+fn round_of_four(t: &Tables, s: FourWords, k: FourWords) -> FourWords
+    ensures { λ r. ⌜ columnsIn r ≡ roundBy (now (t .entry)) (columnsIn s) (columnsIn k) ⌝ }
+{
+    let x = feed(t, k, s.a);
+    let y = feed(t, x, s.b);
+    let z = feed(t, y, s.c);
+    feed(t, z, s.d)
+}
+
 // The rounds that are left after the first `done`.
 pub(crate) fn rounds_after(t: &Tables, ks: &RoundKeys, done: usize, s: Halves) -> Halves
     requires { ⌜ done ≤ 13 ⌝ }
     ensures { λ r. ⌜ columnsOf r ≡ laterRoundsBy (now (t .entry)) (now (ks .entry)) done (columnsOf s) ⌝ }
 {
-    let mut x = s;
+    let mut x = four_words_from(s);
     let mut i = done;
     while i < MIDDLE_ROUNDS {
-        let u = round(t, x, halves_of(ks[i + 1]));
+        let u = round_of_four(t, x, four_words_of(ks[i + 1]));
         x = u;
         i += 1;
     }
-    last_round(t, x, halves_of(ks[LAST_ROUND]))
+    let h = from_columns(x.a, x.b, x.c, x.d);
+    last_round(t, h, halves_of(ks[LAST_ROUND]))
 }
 
 // Rounds 3 to 14 of two states side by side: neither waits for the other.

@@ -9,44 +9,49 @@ use lib.Dec.{lit≤}
 use lib.ListN.{getD}
 use Rattle.aes.specs.State.{State}
 use Rattle.aes_fast.specs.ByTables.{lastRoundBy, roundsAfter}
-use Rattle.aes_fast.specs.Halves.{columnsOf}
+use Rattle.aes_fast.specs.FourWords.{columnsIn}
 use Rattle.aes_fast.proofs.Steps.{roundBy-key, lastRoundBy-key, roundsAfter-none, roundsAfter-more}
 use Rattle.aes_fast.proofs.rounds.rounds_after.Statement.{statement}
 use Rattle.aes_fast.proofs.rounds.rounds_after.Tie as tie
 
 abbrev Inv-loop : tie.InvT-loop
-Inv-loop t ks done x₀ i₀ x i = (done ≤ i) × (i ≤ 13) × (columnsOf x ≡ roundsAfter t ks done (i - done) (columnsOf x₀))
+Inv-loop t ks done x₀ i₀ x i = (done ≤ i) × (i ≤ 13) × (columnsIn x ≡ roundsAfter t ks done (i - done) (columnsIn x₀))
 
 abbrev μ-loop : tie.MeasureT-loop
 μ-loop t ks done x₀ i₀ x i = 13 - i
 
 loop-holds : tie.Need-loop-holds Inv-loop μ-loop
-loop-holds c = (omega arith, c .pre, roundsAfter-none _ _ (c .args .done) _)
+loop-holds c = (omega arith, c .before .pre, roundsAfter-none _ _ (c .before .args .done) _)
 
 loop-again : tie.Need-loop-again Inv-loop μ-loop
 loop-again c =
     let at-loop = c .before .before .before .before in
     let l = at-loop .loop in
-    let a = at-loop .before .args in (
+    let a = at-loop .before .before .args in (
       omega arith,
       omega arith,
-      roundsAfter-more _ _ (a .done) (l .i) _ (l .inv .0) (l .inv .2) (roundBy-key _ (columnsOf (l .x)) _ (c .round .ensures) (c .before .halves-of .ensures)),
+      roundsAfter-more _ _ (a .done) (l .i) _ (l .inv .0) (l .inv .2) (roundBy-key _ (columnsIn (l .x)) _ (c .round-of-four .ensures) (c .before .four-words-of .ensures)),
     )
 
 returns : tie.Need-returns Inv-loop μ-loop
 returns c =
-    let at-loop = c .before .before .before .before in
+    let key = c .before in
+    let made = key .before .before in
+    let at-loop = made .before .before in
     let l = at-loop .loop in
-    let a = at-loop .before .args in
+    let a = at-loop .before .before .args in
     let all : l .i ≡ 13 = omega arith in
-    lastRoundBy-key _ (columnsOf (l .x)) (getD (a .ks .now) 14 []) (c .last-round .ensures) (c .before .halves-of2 .ensures)
+    lastRoundBy-key _ _ (getD (a .ks .now) 14 []) (c .last-round .ensures) (key .halves-of .ensures)
     ∙ ap (λ (s : State). lastRoundBy (a .t .now) s (getD (a .ks .now) 14 []))
-    (l .inv .2 ∙ ap (λ (n : ℕ). roundsAfter (a .t .now) (a .ks .now) (a .done) (n - a .done) (columnsOf (a .s))) all)
+    (made .from-columns .ensures
+    ∙ l .inv .2
+    ∙ ap (λ (n : ℕ). roundsAfter (a .t .now) (a .ks .now) (a .done) (n - a .done) (columnsIn (at-loop .before .four-words-from .result))) all
+    ∙ ap (roundsAfter (a .t .now) (a .ks .now) (a .done) (13 - a .done)) (at-loop .before .four-words-from .ensures))
 
 pub rounds-after-spec : {M : Type 1} → statement M
 rounds-after-spec =
     tie.close
     (tie.spec
-    Inv-loop μ-loop loop-holds (λ c. search needs) (λ c. search needs)
+    Inv-loop μ-loop (λ c κs. search needs) loop-holds (λ c. search needs) (λ c. search needs)
     (λ c. search needs) (λ c κs. search needs) (λ c κs. search needs) (λ c. search needs) (λ c. search needs)
-    loop-again (λ c. search needs) (λ c κs. search needs) (λ c κs. search needs) returns)
+    loop-again (λ c κs. search needs) (λ c. search needs) (λ c κs. search needs) (λ c κs. search needs) returns)
