@@ -10,19 +10,18 @@ use native.Mathlib.Omega.{arith}
 use borrow.Author.Count.{below-more}
 use borrow.Author.Tests.{lt-ltb, le-ltb}
 use lib.Arith.{digits-div, digits-mod}
-use lib.Bits.{bitXor, xor-comm, xor-zero-l}
+use lib.Bits.{bitXor, xor-comm, xor-zero-l, xor-zero-r}
 use lib.ListN.{length, getD, set, length-set}
 use lib.Seq.{getD-set-same, getD-set-other}
 use Rattle.octets.specs.BigEndian.{be}
 use Rattle.octets.specs.Lent.{when}
-use Rattle.octets.specs.Xor.{xors}
-use Rattle.octets.proofs.BigEndian.{be-xor}
 use Rattle.octets.proofs.Xor.{xor-assoc}
 use Rattle.ghash.specs.declared.words.Wide.{Wide}
 use Rattle.ghash.specs.Field.{timesXs, timesH}
 use Rattle.ghash.specs.Table.{adds, entryAt, Window, Sums, entryIn, Filled}
 use Rattle.ghash.specs.Words.{val, blockOf}
 use Rattle.ghash.proofs.Multiply.{timesXs-add, adds-none, adds-window, adds-mod, adds-highest, multiply-words}
+use Rattle.ghash.proofs.Field.{adds-parts, timesXs-zero}
 
 -- ---- entries
 
@@ -148,8 +147,32 @@ word-end b h w z r i ei lt er = er ∙ ap (bitXor z) (entry-first b h i lt ∙ a
 
 -- ---- a block looked up by its two words
 
-pub times-words : (h : ℕ) (x a b : Wide) → blockOf a ≡ be 16 (val a) → blockOf b ≡ be 16 (val b)
-    → val a ≡ adds 64 h (x .high) → val b ≡ adds 64 (timesXs 64 h) (x .low) → xors (blockOf a) (blockOf b) ≡ timesH h (blockOf x)
+pub times-words : (h : ℕ) (x r : Wide) → blockOf r ≡ be 16 (val r)
+    → val r ≡ bitXor (adds 64 h (x .high)) (adds 64 (timesXs 64 h) (x .low)) → blockOf r ≡ timesH h (blockOf x)
 unfolding timesH blockOf
-times-words h x a b ea eb va vb =
-    ap₂ xors ea eb ∙ sym (be-xor 16 (val a) (val b)) ∙ ap (be 16) (ap₂ bitXor va vb ∙ sym (multiply-words (x .high) (x .low) h))
+times-words h x r block e = block ∙ ap (be 16) (e ∙ sym (multiply-words (x .high) (x .low) h))
+
+-- ---- and by one table for its 32-bit parts
+
+-- a word, with z after it
+word-halves : (v w z s r : ℕ) → s ≡ bitXor (adds 32 v w) (timesXs 32 z) → r ≡ bitXor (adds 32 v (w / 2 ^ 32)) (timesXs 32 s)
+    → r ≡ bitXor (adds 64 v w) (timesXs 64 z)
+word-halves v w z s r es er =
+    er ∙ ap (λ (n : ℕ). bitXor (adds 32 v (w / 2 ^ 32)) (timesXs 32 n)) es
+    ∙ adds-parts 32 32 v (w / 2 ^ 32) w z
+    ∙ ap (λ (n : ℕ). bitXor n (timesXs 64 z)) (sym (adds-window 32 32 v w))
+
+pub times-halves : (h : ℕ) (x s₁ s₂ s₃ r : Wide) → blockOf r ≡ be 16 (val r)
+    → val s₁ ≡ bitXor (adds 32 h (x .low)) (timesXs 32 0) → val s₂ ≡ bitXor (adds 32 h (x .low / 2 ^ 32)) (timesXs 32 (val s₁))
+    → val s₃ ≡ bitXor (adds 32 h (x .high)) (timesXs 32 (val s₂)) → val r ≡ bitXor (adds 32 h (x .high / 2 ^ 32)) (timesXs 32 (val s₃))
+    → blockOf r ≡ timesH h (blockOf x)
+times-halves h x s₁ s₂ s₃ r block e₁ e₂ e₃ er =
+    times-words h x r block
+    (word-halves h (x .high) (val s₂) (val s₃) (val r) e₃ er
+    ∙ ap (λ (n : ℕ). bitXor (adds 64 h (x .high)) (timesXs 64 n)) (word-halves h (x .low) 0 (val s₁) (val s₂) e₁ e₂)
+    ∙ adds-parts 64 64 h (x .high) (x .low) 0
+    ∙ ap (bitXor both) (timesXs-zero 128)
+    ∙ xor-zero-r both)
+  where
+    both : ℕ
+    both = bitXor (adds 64 h (x .high)) (adds 64 (timesXs 64 h) (x .low))

@@ -1,6 +1,6 @@
-pub mod Wide
 pub mod Multiply
 pub mod Field
+pub mod Wide
 pub mod Entries
 pub mod Windows
 pub mod Laws

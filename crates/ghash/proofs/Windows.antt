@@ -1,4 +1,4 @@
--- The windows of a word, in a fine table and in another.
+-- The windows of a fine table and of a small one.
 -- Assumes nothing.
 use mathlib.Core.Path.{_≡_, refl, sym, ap, _∙_}
 use mathlib.Core.Bool.{Bool, true, false}
@@ -6,15 +6,11 @@ use mathlib.Core.List.{List}
 use Prim.Native.Nat.{ℕ, _+_, _*_, _%_, _^_, _≤_, _<_}
 use native.Mathlib.Nat.{mul-zero}
 use native.Mathlib.Omega.{arith}
-use Rattle.ghash.specs.Table.{windowWidth, windows, entries, Window, WordTable, TablesOf}
+use Rattle.ghash.specs.Table.{windowWidth, windows, entries, Window, TableOf, TablesOf}
 
 pub windows-few : (fine : Bool) (k : ℕ) → k < windows fine → k < 16
 windows-few true k lt = omega arith
 windows-few false k lt = omega arith
-
-pub windows-all : (fine : Bool) → 4 + windowWidth fine * windows fine ≡ 64
-windows-all true = refl
-windows-all false = refl
 
 -- none before the first
 pub windows-none : (b k : ℕ) → k ≡ 0 → 4 ≡ 4 + b * k
@@ -51,8 +47,5 @@ window-kind fine t f base v e w = rw (sym e) w
 pub tables-kind : (fine t : Bool) (h : ℕ) (front back : List ℕ) → fine ≡ t → TablesOf fine h front back → TablesOf t h front back
 tables-kind fine t h front back e ts = rw (sym e) ts
 
-pub table-key : (fine : Bool) (v w : ℕ) (t : List ℕ) → v ≡ w → WordTable fine v t → WordTable fine w t
+pub table-key : (fine : Bool) (v w : ℕ) (t : List ℕ) → v ≡ w → TableOf fine v t → TableOf fine w t
 table-key fine v w t e g = rw (sym e) g
-
-pub tables-key : (fine : Bool) (m n : ℕ) (front back : List ℕ) → m ≡ n → TablesOf fine m front back → TablesOf fine n front back
-tables-key fine m n front back e ts = rw (sym e) ts

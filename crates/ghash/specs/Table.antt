@@ -1,4 +1,4 @@
--- The tables of H, one for each word of a block: what some bits at a time add. Assumes nothing.
+-- The tables of H: what some bits at a time add. Fine tables are for one word of a block each, and a small one is for 32 bits. Assumes nothing.
 use mathlib.Core.Path.{_≡_}
 use mathlib.Core.Bool.{Bool, true, false}
 use mathlib.Core.List.{List, [], _∷_, _++_}
@@ -18,14 +18,17 @@ lowBits (suc b) n = lowBits b (n / 2) ++ n % 2 ∷ []
 unfoldable pub adds : (b v n : ℕ) → ℕ
 adds b v n = multiply (lowBits b n) 0 v
 
--- a word is four bits and then windows: of six bits in a fine table, and else of four
+-- a table is for four bits and then for windows: of six bits in a fine one, and else of four
 abbrev pub windowWidth : Bool → ℕ
 windowWidth true = 6
 windowWidth false = 4
 
 abbrev pub windows : Bool → ℕ
 windows true = 10
-windows false = 15
+windows false = 7
+
+abbrev pub tableBits : Bool → ℕ
+tableBits fine = 4 + windowWidth fine * windows fine
 
 abbrev pub entries : Bool → ℕ
 entries fine = 16 + windows fine * 2 ^ windowWidth fine
@@ -50,13 +53,14 @@ entryIn t i = getD t (2 * i) 0 * 2 ^ 64 + getD t (2 * i + 1) 0
 pub record Filled (f : ℕ → ℕ) (t : List ℕ) (n : ℕ) : Type 0 where
   pub at : (i : ℕ) → i < n → entryIn t i ≡ f i
 
--- the table of a word, with V at its first bit
-abbrev pub WordTable : (fine : Bool) (v : ℕ) (t : List ℕ) → Type 0
-WordTable fine v t = Filled (entryAt (windowWidth fine) v) t (entries fine)
+-- the table with V at its first bit
+abbrev pub TableOf : (fine : Bool) (v : ℕ) (t : List ℕ) → Type 0
+TableOf fine v t = Filled (entryAt (windowWidth fine) v) t (entries fine)
 
--- and those of the two words of a block
+-- fine tables, of the two words of a block, or one small table
 abbrev pub TablesOf : (fine : Bool) (h : ℕ) (front back : List ℕ) → Type 0
-TablesOf fine h front back = WordTable fine h front × WordTable fine (timesXs 64 h) back
+TablesOf true h front back = TableOf true h front × TableOf true (timesXs 64 h) back
+TablesOf false h front back = TableOf false h front
 
 abbrev pub Room : Bool → List ℕ → Type 0
 Room fine t = length t ≡ 2 * entries fine

@@ -1,7 +1,7 @@
 // GHASH of GCM's parts, by tables of the hash key.
 use crate::running::absorb_text;
 use crate::running::close_block;
-use crate::table::fill_tables;
+use crate::table::fill_table;
 use crate::table::times_table;
 use crate::words::Wide;
 use crate::words::add_wide;
@@ -16,10 +16,10 @@ ghost use Rattle.ghash.specs.Ghash.{ghashParts};
 ghost use Rattle.ghash.specs.Table.{TablesOf, Room};
 
 // The length of text from which on fine tables are worth their making.
-const LONG: usize = 4096;
+const LONG: usize = 2048;
 
-// Two words for each entry: 16 and then 15 windows of 16, or 16 and then 10 windows of 64.
-type Table = [u64; 512];
+// Two words for each entry: 16 and then 7 windows of 16, or 16 and then 10 windows of 64.
+type Table = [u64; 256];
 
 type FineTable = [u64; 1312];
 
@@ -45,14 +45,13 @@ fn hash_by(
     block_of(times_table(front, back, fine, add_wide(whole, wide_of(last))))
 }
 
-// Each kind of tables has a function of its own, so that the two may have the same place on the stack.
+// Each kind of tables has a function of its own, so that the two may have the same place on the stack. The small table serves both words.
 fn hash_short(h: Block, a: &[u8], b: &[u8], text: &[u8], last: Block) -> Block
     ensures { λ r. ⌜ r ≡ ghashParts h (now (a .entry) ++ now (b .entry)) (now (text .entry)) last ⌝ }
 {
-    let mut front: Table = [0; 512];
-    let mut back: Table = [0; 512];
-    fill_tables(wide_of(h), &mut front, &mut back, false);
-    hash_by(&front, &back, false, a, b, text, last)
+    let mut table: Table = [0; 256];
+    fill_table(wide_of(h), &mut table, false);
+    hash_by(&table, &table, false, a, b, text, last)
 }
 
 // The same by fine tables.
@@ -61,7 +60,8 @@ fn hash_long(h: Block, a: &[u8], b: &[u8], text: &[u8], last: Block) -> Block
 {
     let mut front: FineTable = [0; 1312];
     let mut back: FineTable = [0; 1312];
-    fill_tables(wide_of(h), &mut front, &mut back, true);
+    let v = fill_table(wide_of(h), &mut front, true);
+    fill_table(v, &mut back, true);
     hash_by(&front, &back, true, a, b, text, last)
 }
 

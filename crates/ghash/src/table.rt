@@ -1,13 +1,15 @@
-// The field product by a table of H for each word of a block: what some bits of the word add at their place.
+// The field product by tables of H: what some bits of a block add at their place. Fine tables are for one word each, and a small one is for 32 bits.
 use crate::words::Wide;
 use crate::words::add_wide;
 use crate::words::times_x;
+use crate::words::times_x32;
 ghost use mathlib.Core.Path.{_≡_};
+ghost use mathlib.Core.Bool.{false};
 ghost use Prim.Native.Nat.{ℕ, _+_, _*_, _/_, _%_, _^_, _≤_, _<_};
 ghost use lib.Bits.{bitXor};
 ghost use lib.ListN.{length};
 ghost use Rattle.ghash.specs.Field.{timesXs, timesH};
-ghost use Rattle.ghash.specs.Table.{adds, windowWidth, windows, entries, Window, Sums, entryIn, Filled, WordTable, TablesOf, Room};
+ghost use Rattle.ghash.specs.Table.{adds, windowWidth, windows, tableBits, entries, Window, Sums, entryIn, Filled, TableOf, TablesOf, Room};
 ghost use Rattle.ghash.specs.Words.{val, blockOf};
 
 fn read_entry(table: &[u64], i: usize) -> Wide
@@ -81,10 +83,10 @@ fn fill_window(v: Wide, table: &mut [u64], base: usize, fine: bool) -> Wide
     next
 }
 
-// The windows of six bits, and of four, that a word has after its first four bits.
+// The windows of six bits, and of four, that a table has after its first four bits.
 const FINE_WINDOWS: usize = 10;
 
-const WINDOWS: usize = 15;
+const WINDOWS: usize = 7;
 
 // The number of windows.
 fn count(fine: bool) -> usize
@@ -127,11 +129,11 @@ fn other_windows(w: u64, fine: bool) -> u64
     w / 16
 }
 
-// The table of a word, with V at its first bit, and V after it.
-fn fill_word(v: Wide, table: &mut [u64], fine: bool) -> Wide
+// The table with V at its first bit, and V after its last.
+pub(crate) fn fill_table(v: Wide, table: &mut [u64], fine: bool) -> Wide
     requires { ⌜ Room fine (now table) ⌝ }
-    ensures { λ _. ⌜ WordTable fine (val v) (now (table .exit)) ⌝ }
-    ensures { λ r. ⌜ val r ≡ timesXs 64 (val v) ⌝ }
+    ensures { λ _. ⌜ TableOf fine (val v) (now (table .exit)) ⌝ }
+    ensures { λ r. ⌜ val r ≡ timesXs (tableBits fine) (val v) ⌝ }
     ensures { λ _. ⌜ length (now (table .exit)) ≡ length (now (table .entry)) ⌝ }
 {
     let mut next = fill_four(v, table, 0);
@@ -143,19 +145,10 @@ fn fill_word(v: Wide, table: &mut [u64], fine: bool) -> Wide
     next
 }
 
-pub(crate) fn fill_tables(h: Wide, front: &mut [u64], back: &mut [u64], fine: bool)
-    requires { ⌜ Room fine (now front) × Room fine (now back) ⌝ }
-    ensures { λ _. ⌜ TablesOf fine (val h) (now (front .exit)) (now (back .exit)) ⌝ }
-    ensures { λ _. ⌜ Room fine (now (front .exit)) × Room fine (now (back .exit)) ⌝ }
-{
-    let v = fill_word(h, front, fine);
-    fill_word(v, back, fine);
-}
-
-// What a word adds, the last window looked up first.
-fn sum_word(table: &[u64], w: u64, fine: bool) -> Wide
+// What the last bits of w add, as many as the table has, the last window looked up first.
+fn sum_bits(table: &[u64], w: u64, fine: bool) -> Wide
     requires { ⌜ Room fine (now table) ⌝ }
-    ensures { λ r. ⌜ ((v : ℕ) → WordTable fine v (now (table .entry)) → val r ≡ adds 64 v w) ⌝ }
+    ensures { λ r. ⌜ ((v : ℕ) → TableOf fine v (now (table .entry)) → val r ≡ adds (tableBits fine) v w) ⌝ }
 {
     let mut sum = Wide { high: 0, low: 0 };
     let mut left = w;
@@ -171,13 +164,32 @@ fn sum_word(table: &[u64], w: u64, fine: bool) -> Wide
     add_wide(sum, read_entry(table, last_window(left, false)))
 }
 
-// The product of a block with H. The two kinds of tables are told apart here, once a block, so that each sum has its numbers fixed.
+// What the last 32 bits of w add, and z moved on by as many.
+fn half_word(table: &[u64], w: u64, z: Wide) -> Wide
+    requires { ⌜ Room false (now table) ⌝ }
+    ensures { λ r. ⌜ ((v : ℕ) → TableOf false v (now (table .entry)) → val r ≡ bitXor (adds 32 v w) (timesXs 32 (val z))) ⌝ }
+{
+    add_wide(sum_bits(table, w, false), times_x32(z))
+}
+
+// The product of a block with H by a small table, the last half of a word first.
+fn times_small(table: &[u64], x: Wide) -> Wide
+    requires { ⌜ Room false (now table) ⌝ }
+    ensures { λ r. ⌜ ((h : ℕ) → TableOf false h (now (table .entry)) → blockOf r ≡ timesH h (blockOf x)) ⌝ }
+{
+    let fourth = half_word(table, x.low, Wide { high: 0, low: 0 });
+    let third = half_word(table, x.low / 0x1_0000_0000, fourth);
+    let second = half_word(table, x.high, third);
+    half_word(table, x.high / 0x1_0000_0000, second)
+}
+
+// The same by either kind of tables. They are told apart here, once a block, so that each sum has its numbers fixed.
 pub(crate) fn times_table(front: &[u64], back: &[u64], fine: bool, x: Wide) -> Wide
     requires { ⌜ Room fine (now front) × Room fine (now back) ⌝ }
     ensures { λ r. ⌜ ((h : ℕ) → TablesOf fine h (now (front .entry)) (now (back .entry)) → blockOf r ≡ timesH h (blockOf x)) ⌝ }
 {
     if fine {
-        return add_wide(sum_word(front, x.high, true), sum_word(back, x.low, true));
+        return add_wide(sum_bits(front, x.high, true), sum_bits(back, x.low, true));
     }
-    add_wide(sum_word(front, x.high, false), sum_word(back, x.low, false))
+    times_small(front, x)
 }

@@ -9,7 +9,7 @@ ghost use lib.Bits.{bitXor};
 ghost use lib.ListN.{length, take, drop};
 ghost use Rattle.octets.specs.BigEndian.{be, number};
 ghost use Rattle.octets.specs.Xor.{xors};
-ghost use Rattle.ghash.specs.Field.{timesX};
+ghost use Rattle.ghash.specs.Field.{timesX, timesXs};
 ghost use Rattle.ghash.specs.Words.{val, blockOf};
 
 pub struct Wide {
@@ -34,6 +34,21 @@ pub(crate) fn times_x(v: Wide) -> Wide
     Wide {
         high: (v.high / 2) ^ (v.low % 2 * 0xe100_0000_0000_0000),
         low: v.high % 2 * 0x8000_0000_0000_0000 + v.low / 2,
+    }
+}
+
+// V after 32 bits of X: for each bit that falls out R is added, whose lowest bit does not fall out again.
+pub(crate) fn times_x32(v: Wide) -> Wide
+    ensures { λ r. ⌜ val r ≡ timesXs 32 (val v) ⌝ }
+{
+    let out = v.low % 0x1_0000_0000;
+    let added = (out * 0x1_0000_0000)
+        ^ (out * 0x8000_0000)
+        ^ (out * 0x4000_0000)
+        ^ (out * 0x200_0000);
+    Wide {
+        high: (v.high / 0x1_0000_0000) ^ added,
+        low: v.high % 0x1_0000_0000 * 0x1_0000_0000 + v.low / 0x1_0000_0000,
     }
 }
 

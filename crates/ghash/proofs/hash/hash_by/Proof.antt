@@ -1,7 +1,6 @@
 -- `ghash::hash::hash_by` meets its contract: the states from part to part are those of the running chain.
 -- Assumes nothing.
 use mathlib.Core.Path.{refl, ap, _∙_}
-use Prim.Native.Nat.{ℕ}
 use borrow.Author.Needs.{needs}
 use Rattle.octets.specs.BigEndian.{number}
 use Rattle.octets.specs.Xor.{xors}

@@ -1,6 +1,6 @@
 -- `ghash::running::absorb_rest` meets its contract. The loop's invariant: from the state reached, what is left of the text leads to the result.
 -- Assumes nothing.
-use mathlib.Core.Path.{_≡_, refl, ap₂, _∙_}
+use mathlib.Core.Path.{_≡_, refl, _∙_}
 use Prim.Native.Nat.{ℕ, _-_, _≤_}
 use native.Mathlib.Omega.{arith}
 use borrow.Author.Needs.{needs}

@@ -1,7 +1,6 @@
 -- `ghash::table::fill_four` meets its contract: the entry of no bit, and then those whose highest bit is 1, 2, 4 and 8.
 -- Assumes nothing.
 use mathlib.Core.Path.{_≡_, refl, ap, _∙_}
-use Prim.Native.Nat.{ℕ}
 use native.Mathlib.Omega.{arith}
 use borrow.Author.Needs.{needs}
 use Rattle.ghash.specs.Field.{timesX, timesXs}

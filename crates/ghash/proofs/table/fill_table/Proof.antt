@@ -1,4 +1,4 @@
--- `ghash::table::fill_word` meets its contract. The loop's invariant: from the first four bits on, the entries of k windows are right, and V is after them.
+-- `ghash::table::fill_table` meets its contract. The loop's invariant: from the first four bits on, the entries of k windows are right, and V is after them.
 -- Assumes nothing.
 use mathlib.Core.Path.{_≡_, refl, sym, ap, _∙_}
 use Prim.Native.Nat.{ℕ, _+_, _*_, _-_, _^_, _≤_}
@@ -10,9 +10,9 @@ use Rattle.ghash.specs.Field.{timesXs}
 use Rattle.ghash.specs.Table.{windowWidth, windows, entryAt, Filled}
 use Rattle.ghash.specs.Words.{val}
 use Rattle.ghash.proofs.Entries.{first-window, window-at, filled-none, filled-same, next-window, next-place}
-use Rattle.ghash.proofs.Windows.{windows-all, windows-none, entries-four}
-use Rattle.ghash.proofs.table.fill_word.Statement.{statement}
-use Rattle.ghash.proofs.table.fill_word.Tie as tie
+use Rattle.ghash.proofs.Windows.{windows-none, entries-four}
+use Rattle.ghash.proofs.table.fill_table.Statement.{statement}
+use Rattle.ghash.proofs.table.fill_table.Tie as tie
 
 abbrev Inv-loop : tie.InvT-loop
 Inv-loop table₀ fine next₀ k₀ table next k =
@@ -96,11 +96,11 @@ returns c =
     let k : l .k ≡ windows fine = all _ _ _ (l .inv .0) (c .before .count .ensures) (omega arith) in
     let end = l .inv .2 v (e .1 .0) (e .0 (entryAt (windowWidth fine) v) (first-window (windowWidth fine) v) (filled-none _ _)) in (
       filled-same (ap (λ (n : ℕ). 16 + n * 2 ^ windowWidth fine) k) (end .1),
-      (end .0 ∙ ap (λ (n : ℕ). timesXs n v) (ap (λ (n : ℕ). 4 + windowWidth fine * n) k ∙ windows-all fine), l .inv .1 ∙ e .1 .1),
+      (end .0 ∙ ap (λ (n : ℕ). timesXs (4 + windowWidth fine * n) v) k, l .inv .1 ∙ e .1 .1),
     )
 
-pub fill-word-spec : {M : Type 1} → statement M
-fill-word-spec =
+pub fill-table-spec : {M : Type 1} → statement M
+fill-table-spec =
     tie.close
     (tie.spec Inv-loop μ-loop fill-four-requires loop-holds (λ c κs. search needs) place-requires fill-window-requires (λ c. search needs) loop-less
     loop-again same-length returns)

@@ -1,17 +1,17 @@
--- `ghash::table::sum_word` meets its contract. The loop's invariant: the sum, and what the first four bits and the k windows that are left add.
+-- `ghash::table::sum_bits` meets its contract. The loop's invariant: the sum, and what the first four bits and the k windows that are left add.
 -- Assumes nothing.
-use mathlib.Core.Path.{_≡_, ap, ap₂, _∙_}
+use mathlib.Core.Path.{_≡_, ap, _∙_}
 use mathlib.Core.Bool.{Bool}
 use Prim.Native.Nat.{ℕ, _+_, _*_, _-_, _≤_, _<_}
 use native.Mathlib.Omega.{arith}
 use borrow.Author.Needs.{needs}
 use lib.Bits.{bitXor, xor-zero-l}
-use Rattle.ghash.specs.Table.{adds, windowWidth, windows, WordTable}
+use Rattle.ghash.specs.Table.{adds, windowWidth, windows, tableBits, TableOf}
 use Rattle.ghash.specs.Words.{val}
 use Rattle.ghash.proofs.Entries.{word-turn, word-end}
-use Rattle.ghash.proofs.Windows.{windows-all, windows-none, entries-four, entries-few}
-use Rattle.ghash.proofs.table.sum_word.Statement.{statement}
-use Rattle.ghash.proofs.table.sum_word.Tie as tie
+use Rattle.ghash.proofs.Windows.{windows-none, entries-four, entries-few}
+use Rattle.ghash.proofs.table.sum_bits.Statement.{statement}
+use Rattle.ghash.proofs.table.sum_bits.Tie as tie
 
 back : (k : ℕ) → 0 < k → k - 1 + 1 ≡ k
 back k h = omega arith
@@ -26,14 +26,14 @@ fits i e l h k = omega arith
 abbrev Inv-loop : tie.InvT-loop
 Inv-loop table w fine sum₀ left₀ k₀ sum left k =
     (k ≤ windows fine)
-    × ((v : ℕ) → WordTable fine v table → bitXor (val sum) (adds (4 + windowWidth fine * k) v left) ≡ adds 64 v left₀)
+    × ((v : ℕ) → TableOf fine v table → bitXor (val sum) (adds (4 + windowWidth fine * k) v left) ≡ adds (tableBits fine) v left₀)
 
 abbrev μ-loop : tie.MeasureT-loop
 μ-loop table w fine sum₀ left₀ k₀ sum left k = k
 
 -- before the first turn
-start : (fine : Bool) (k v w : ℕ) → k ≡ windows fine → bitXor 0 (adds (4 + windowWidth fine * k) v w) ≡ adds 64 v w
-start fine k v w e = xor-zero-l _ ∙ ap (λ (n : ℕ). adds n v w) (ap (λ (n : ℕ). 4 + windowWidth fine * n) e ∙ windows-all fine)
+start : (fine : Bool) (k v w : ℕ) → k ≡ windows fine → bitXor 0 (adds (4 + windowWidth fine * k) v w) ≡ adds (tableBits fine) v w
+start fine k v w e = xor-zero-l _ ∙ ap (λ (n : ℕ). adds (4 + windowWidth fine * n) v w) e
 
 loop-holds : tie.Need-loop-holds Inv-loop μ-loop
 loop-holds c =
@@ -95,8 +95,8 @@ returns c = λ v t.
     ∙ ap (λ (n : ℕ). bitXor (val (l .sum)) (adds n v (l .left))) (windows-none (windowWidth fine) (l .k) (omega arith))
     ∙ l .inv .1 v t
 
-pub sum-word-spec : {M : Type 1} → statement M
-sum-word-spec =
+pub sum-bits-spec : {M : Type 1} → statement M
+sum-bits-spec =
     tie.close
     (tie.spec Inv-loop μ-loop (λ c κs. search needs) loop-holds (λ c. search needs) place-requires (λ c κs. search needs) add-read-entry
     read-entry-requires (λ c κs. search needs) (λ c κs. search needs) (λ c. search needs) loop-again (λ c κs. search needs)
