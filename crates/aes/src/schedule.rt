@@ -11,11 +11,8 @@ ghost use mathlib.Core.List.{[], _∷_};
 ghost use Prim.Native.Nat.{_+_, _*_, _≤_, _<_};
 ghost use lib.ListN.{getD};
 ghost use Rattle.aes_field.specs.Tables.{sboxTable};
-ghost use Rattle.aes.specs.State.{stateOf};
+ghost use Rattle.aes.specs.State.{column, stateOf};
 ghost use Rattle.aes.specs.KeyExpansion.{rotWord, power, temp, keyWord, nextKey, extended};
-
-// The round keys after the first two.
-const EXTENDED: usize = 13;
 
 // The constants that go into every second round key.
 const RCON: [u8; 7] = [1, 2, 4, 8, 16, 32, 64];
@@ -55,21 +52,49 @@ fn next_key(k: State, t: Column) -> State
     [w0, w1, w2, w3]
 }
 
-// The first two round keys, and the thirteen that follow from them.
-pub(crate) fn extend(t: &ByteTable, first: State, second: State) -> RoundKeys
-    requires { ⌜ now t ≡ sboxTable ⌝ }
-    ensures { λ r. ⌜ r ≡ extended (first ∷ second ∷ []) 13 ⌝ }
+// Round key n + 2, where k and l are the two before it.
+fn key_after(t: &ByteTable, n: usize, k: State, l: State) -> State
+    requires { ⌜ (n < 13) × (now t ≡ sboxTable) ⌝ }
+    ensures { λ r. ⌜ r ≡ nextKey k (temp (8 + 4 * n) (column l 3)) ⌝ }
 {
-    let mut ks = [first; 15];
-    ks[1] = second;
-    let mut n: usize = 0;
-    while n < EXTENDED {
-        let w = first_temp(t, n, ks[n + 1][3]);
-        let k = next_key(ks[n], w);
-        ks[n + 2] = k;
-        n += 1;
-    }
-    ks
+    next_key(k, first_temp(t, n, l[3]))
+}
+
+// The first two round keys, and the thirteen that follow from them. Each is a local of its own: a key that is read back from an array waits for its store.
+pub(crate) fn extend(t: &ByteTable, k0: State, k1: State) -> RoundKeys
+    requires { ⌜ now t ≡ sboxTable ⌝ }
+    ensures { λ r. ⌜ r ≡ extended (k0 ∷ k1 ∷ []) 13 ⌝ }
+{
+    let k2 = key_after(t, 0, k0, k1);
+    let k3 = key_after(t, 1, k1, k2);
+    let k4 = key_after(t, 2, k2, k3);
+    let k5 = key_after(t, 3, k3, k4);
+    let k6 = key_after(t, 4, k4, k5);
+    let k7 = key_after(t, 5, k5, k6);
+    let k8 = key_after(t, 6, k6, k7);
+    let k9 = key_after(t, 7, k7, k8);
+    let k10 = key_after(t, 8, k8, k9);
+    let k11 = key_after(t, 9, k9, k10);
+    let k12 = key_after(t, 10, k10, k11);
+    let k13 = key_after(t, 11, k11, k12);
+    let k14 = key_after(t, 12, k12, k13);
+    [
+        k0,
+        k1,
+        k2,
+        k3,
+        k4,
+        k5,
+        k6,
+        k7,
+        k8,
+        k9,
+        k10,
+        k11,
+        k12,
+        k13,
+        k14,
+    ]
 }
 
 // The word of the key that begins at a place.

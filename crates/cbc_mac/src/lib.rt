@@ -7,42 +7,28 @@ use aes_fast::halves::halves_at;
 use octets::strings::Block;
 use octets::strings::xor_blocks;
 ghost use mathlib.Core.Path.{_≡_};
-ghost use Prim.Native.Nat.{_%_, _<_};
+ghost use Prim.Native.Nat.{_+_, _%_, _≤_};
+ghost use lib.ListN.{length};
 ghost use Rattle.octets.specs.Blocks.{cut, chain};
-ghost use Rattle.octets.specs.Running.{afterByte, addAt, absorb, close};
+ghost use Rattle.octets.specs.Running.{addFrom, absorb, close};
 ghost use Rattle.aes_fast.specs.ByTables.{cipherBy};
 ghost use Rattle.aes_fast.specs.Laws.{Ciphered};
 
-fn add_byte(t: &Tables, ks: &RoundKeys, k: usize, y: Block, b: u8) -> Block
-    requires { ⌜ k < 16 ⌝ }
-    ensures { λ r. ⌜ r ≡ afterByte (cipherBy (now (t .entry)) (now (ks .entry))) k (addAt k y b) ⌝ }
+// A part that stays within the block, added from place k on.
+fn add_bytes(k: usize, y: Block, part: &[u8]) -> Block
+    requires { ⌜ k + length (now part) ≤ 16 ⌝ }
+    ensures { λ r. ⌜ r ≡ addFrom k y (now (part .entry)) ⌝ }
 {
     let mut x = y;
-    x[k] = x[k] ^ b;
-    if k == 15 {
-        return encrypt(t, ks, x);
-    }
-    x
-}
-
-// A part, byte by byte.
-fn absorb_bytes(t: &Tables, ks: &RoundKeys, k: usize, y: Block, part: &[u8]) -> Block
-    requires { ⌜ k < 16 ⌝ }
-    ensures { λ r. ⌜ r ≡ absorb (cipherBy (now (t .entry)) (now (ks .entry))) k y (now (part .entry)) ⌝ }
-{
-    let mut x = y;
-    let mut place = k;
     let mut j = 0;
     while j < part.len() {
-        let u = add_byte(t, ks, place, x, part[j]);
-        x = u;
-        place = (place + 1) % 16;
+        x[k + j] = x[k + j] ^ part[j];
         j += 1;
     }
     x
 }
 
-// A part from the start of a block: whole blocks as blocks, and the rest byte by byte.
+// A part from the start of a block: whole blocks as blocks, and then the rest.
 fn absorb_blocks(t: &Tables, ks: &RoundKeys, y: Block, part: &[u8]) -> Block
     ensures { λ r. ⌜ r ≡ absorb (cipherBy (now (t .entry)) (now (ks .entry))) 0 y (now (part .entry)) ⌝ }
 {
@@ -55,20 +41,23 @@ fn absorb_blocks(t: &Tables, ks: &RoundKeys, y: Block, part: &[u8]) -> Block
         x = u;
         at += 16;
     }
-    absorb_bytes(t, ks, 0, x, &part[at..])
+    add_bytes(0, x, &part[at..])
 }
 
-// A part of any length, from place k of a block: bytes up to the block's end, and the rest from the start of the next.
+// A part of any length, from place k of a block: what fills that block, and the rest from the start of the next.
 pub fn absorb(t: &Tables, ks: &RoundKeys, k: usize, y: Block, part: &[u8]) -> Block
     ensures { λ r. ⌜ Ciphered (now (t .entry)) (now (ks .entry)) (λ f. absorb f (k % 16) y (now (part .entry))) r ⌝ }
 {
     let place = k % 16;
-    let head = (16 - place) % 16;
-    if part.len() <= head {
-        return absorb_bytes(t, ks, place, y, part);
+    if place == 0 {
+        return absorb_blocks(t, ks, y, part);
     }
-    let x = absorb_bytes(t, ks, place, y, &part[..head]);
-    absorb_blocks(t, ks, x, &part[head..])
+    let room = 16 - place;
+    if part.len() < room {
+        return add_bytes(place, y, part);
+    }
+    let x = encrypt(t, ks, add_bytes(place, y, &part[..room]));
+    absorb_blocks(t, ks, x, &part[room..])
 }
 
 // A block that has begun is filled with zeros.

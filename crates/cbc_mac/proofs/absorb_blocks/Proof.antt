@@ -1,15 +1,15 @@
 -- `cbc_mac::absorb_blocks` meets its contract: from the state reached, the bytes that are left lead to the result. The measure is the bytes left.
 -- Assumes nothing.
-use mathlib.Core.Path.{_≡_, refl, ap, _∙_}
+use mathlib.Core.Path.{_≡_, refl, sym, ap, _∙_}
 use mathlib.Core.List.{List}
 use Prim.Native.Nat.{ℕ, _+_, _-_, _≤_}
 use native.Mathlib.Omega.{arith}
 use borrow.Author.Needs.{needs}
-use lib.ListN.{length, drop}
+use lib.ListN.{length, drop, length-take, length-drop}
 use Rattle.octets.specs.Xor.{xors}
-use Rattle.octets.specs.Running.{absorb}
+use Rattle.octets.specs.Running.{addFrom, absorb}
 use Rattle.octets.proofs.Tests.{rest-all}
-use Rattle.octets.proofs.Running.{absorb-block-turn}
+use Rattle.octets.proofs.Running.{absorb-within, absorb-block-turn}
 use Rattle.aes_fast.specs.ByTables.{cipherBy}
 use Rattle.aes_fast.proofs.Laws.{block-at-whole}
 use Rattle.cbc_mac.proofs.absorb_blocks.Statement.{statement}
@@ -42,15 +42,22 @@ loop-again c =
           ∙ absorb-block-turn f (l .x) (a .part .now) (l .at) (l .inv .1) (omega arith) ∙ l .inv .2,
     )
 
+add-bytes-requires : tie.Need-add-bytes-requires Inv-loop μ-loop
+add-bytes-requires c κs = simp (length-take, length-drop) (omega arith)
+
 returns : tie.Need-returns Inv-loop μ-loop
 returns c =
     let l = c .before .before .before .loop in
     let a = c .before .before .before .before .before .args in
-    c .absorb-bytes .ensures ∙ ap (absorb (cipherBy (a .t .now) (a .ks .now)) 0 (l .x)) (rest-all (a .part .now) (l .at)) ∙ l .inv .2
+    let left = drop (l .at) (a .part .now) in
+    c .add-bytes .ensures
+    ∙ ap (addFrom 0 (l .x)) (rest-all (a .part .now) (l .at))
+    ∙ sym (absorb-within (cipherBy (a .t .now) (a .ks .now)) 0 (l .x) left (l .inv .1) (omega (arith, length-drop (l .at) (a .part .now))))
+    ∙ l .inv .2
 
 pub absorb-blocks-spec : {M : Type 1} → statement M
 absorb-blocks-spec =
     tie.close
     (tie.spec
     Inv-loop μ-loop loop-holds (λ c. omega arith) (λ c κs. search needs) (λ c κs. search needs) (λ c κs. search needs) (λ c κs. search needs)
-    (λ c. omega arith) (λ c. omega arith) loop-again (λ c. omega arith) (λ c. search needs) (λ c. search needs) (λ c κs. search needs) returns)
+    (λ c. omega arith) (λ c. omega arith) loop-again (λ c. omega arith) (λ c. search needs) (λ c. search needs) add-bytes-requires returns)

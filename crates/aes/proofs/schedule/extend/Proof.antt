@@ -1,103 +1,51 @@
--- `aes::schedule::extend` meets its contract: the loop's invariant: the first n + 2 round keys are those of the schedule. The measure is the keys left.
+-- `aes::schedule::extend` meets its contract: each round key follows from the two before it.
 -- Assumes nothing.
 use borrow.Author.Needs.{needs}
-use mathlib.Core.Path.{_≡_, refl, sym, _∙_}
-use Prim.Native.Nat.{_≤_, _+_, _-_}
-use native.Mathlib.Omega.{arith}
-use lib.Dec.{lit≤}
-use lib.ListN.{length, length-set, take}
-use lib.Seq.{take-all}
-use Rattle.aes.specs.KeyExpansion.{extended}
-use Rattle.aes.proofs.Extended.{extended-more}
+use mathlib.Core.List.{List, [], _∷_}
+use lib.Dec.{lit<}
+use Rattle.aes.specs.State.{State}
+use Rattle.aes.proofs.Extended.{extended-none, extended-next}
 use Rattle.aes.proofs.schedule.extend.Statement.{statement}
 use Rattle.aes.proofs.schedule.extend.Tie as tie
 
-abbrev Inv-loop : tie.InvT-loop
-Inv-loop t ks₀ n₀ ks n = (n ≤ 13) × (length ks ≡ 15) × (take (n + 2) ks ≡ extended (take 2 ks₀) n)
-
-abbrev μ-loop : tie.MeasureT-loop
-μ-loop t ks₀ n₀ ks n = 13 - n
-
-array-set-from-ks : tie.Need-array-set-from-ks Inv-loop μ-loop
-array-set-from-ks c = search needs
-
-loop-holds : tie.Need-loop-holds Inv-loop μ-loop
-unfolding extended
-loop-holds c = (lit≤ tt, refl, refl)
-
-add-first-temp : tie.Need-add-first-temp Inv-loop μ-loop
-add-first-temp c = search needs
-
-mul-first-temp : tie.Need-mul-first-temp Inv-loop μ-loop
-mul-first-temp c = search needs
-
-index-1-first-temp : tie.Need-index-1-first-temp Inv-loop μ-loop
-index-1-first-temp c = search needs
-
-index-2-first-temp : tie.Need-index-2-first-temp Inv-loop μ-loop
-index-2-first-temp c = search needs
-
-first-temp-requires : tie.Need-first-temp-requires Inv-loop μ-loop
-first-temp-requires c κs = search needs
-
-mul-next-key : tie.Need-mul-next-key Inv-loop μ-loop
-mul-next-key c = search needs
-
-array-copy-out-next-key : tie.Need-array-copy-out-next-key Inv-loop μ-loop
-array-copy-out-next-key c = search needs
-
-next-key-requires : tie.Need-next-key-requires Inv-loop μ-loop
-next-key-requires c κs = search needs
-
-add-ks : tie.Need-add-ks Inv-loop μ-loop
-add-ks c = search needs
-
-mul-ks : tie.Need-mul-ks Inv-loop μ-loop
-mul-ks c = search needs
-
-array-set-from-ks-2 : tie.Need-array-set-from-ks-2 Inv-loop μ-loop
-array-set-from-ks-2 c = search needs
-
-add-n : tie.Need-add-n Inv-loop μ-loop
-add-n c = search needs
-
-loop-less : tie.Need-loop-less Inv-loop μ-loop
-loop-less c = search needs
-
-loop-again : tie.Need-loop-again Inv-loop μ-loop
-loop-again c =
-    let l = c .before .before .before .before .before .loop in (
-      omega arith,
-      simp length-set (l .inv .1),
-      extended-more (l .ks) _ (l .n) (c .before .before .first-temp .result) (c .next-key .result) (omega arith) (l .inv .2)
-          (c .before .before .first-temp .ensures) (c .next-key .ensures),
-    )
-
-returns : tie.Need-returns Inv-loop μ-loop
+returns : tie.Need-returns
 returns c =
-    let done : c .before .loop .n ≡ 13 = omega arith in
-    sym (take-all 15 (c .before .loop .ks) (omega arith)) ∙ (rw done at (c .before .loop .inv .2))
+    let c13 = c .before in
+    let c12 = c13 .before in
+    let c11 = c12 .before in
+    let c10 = c11 .before in
+    let c9 = c10 .before in
+    let c8 = c9 .before in
+    let c7 = c8 .before in
+    let c6 = c7 .before in
+    let c5 = c6 .before in
+    let c4 = c5 .before in
+    let c3 = c4 .before in
+    let c2 = c3 .before in
+    let a = c2 .before .args in
+    let ks : List State =
+    a .k0 ∷ a .k1 ∷ c2 .key-after .result ∷ c3 .key-after2 .result ∷ c4 .key-after3 .result ∷ c5 .key-after4 .result ∷
+    c6 .key-after5 .result ∷ c7 .key-after6 .result ∷ c8 .key-after7 .result ∷ c9 .key-after8 .result ∷ c10 .key-after9 .result ∷
+    c11 .key-after10 .result ∷ c12 .key-after11 .result ∷ c13 .key-after12 .result ∷ c .key-after13 .result ∷ [] in
+    extended-next ks 12 (lit< tt) (c .key-after13 .ensures)
+    (extended-next ks 11 (lit< tt) (c13 .key-after12 .ensures)
+    (extended-next ks 10 (lit< tt) (c12 .key-after11 .ensures)
+    (extended-next ks 9 (lit< tt) (c11 .key-after10 .ensures)
+    (extended-next ks 8 (lit< tt) (c10 .key-after9 .ensures)
+    (extended-next ks 7 (lit< tt) (c9 .key-after8 .ensures)
+    (extended-next ks 6 (lit< tt) (c8 .key-after7 .ensures)
+    (extended-next ks 5 (lit< tt) (c7 .key-after6 .ensures)
+    (extended-next ks 4 (lit< tt) (c6 .key-after5 .ensures)
+    (extended-next ks 3 (lit< tt) (c5 .key-after4 .ensures)
+    (extended-next ks 2 (lit< tt) (c4 .key-after3 .ensures)
+    (extended-next ks 1 (lit< tt) (c3 .key-after2 .ensures)
+    (extended-next ks 0 (lit< tt) (c2 .key-after .ensures)
+    (extended-none ks)))))))))))))
 
 pub extend-spec : {M : Type 1} → statement M
 extend-spec =
     tie.close
     (tie.spec
-    Inv-loop
-    μ-loop
-    array-set-from-ks
-    loop-holds
-    add-first-temp
-    mul-first-temp
-    index-1-first-temp
-    index-2-first-temp
-    first-temp-requires
-    mul-next-key
-    array-copy-out-next-key
-    next-key-requires
-    add-ks
-    mul-ks
-    array-set-from-ks-2
-    add-n
-    loop-less
-    loop-again
-    returns)
+    (λ c κs. search needs) (λ c κs. search needs) (λ c κs. search needs) (λ c κs. search needs) (λ c κs. search needs) (λ c κs. search needs)
+    (λ c κs. search needs) (λ c κs. search needs) (λ c κs. search needs) (λ c κs. search needs) (λ c κs. search needs) (λ c κs. search needs)
+    (λ c κs. (lit< tt, c .before .before .before .before .before .before .before .before .before .before .before .before .pre)) returns)
