@@ -2,7 +2,8 @@ pub mod Limits
 pub mod Stream
 mod Pads
 pub mod CcmFormat
-pub mod CcmOpened
+pub mod CcmPass
+mod CcmShort
 pub mod Numbers
 pub mod Named
 pub mod BothWays

@@ -27,6 +27,10 @@ ctr f w front i s = xors s (stream f (values (counterBlock w front) i (blocks (l
 abbrev pub withPad : List ℕ → ℕ → List ℕ → List ℕ → List ℕ
 withPad s at pad d = take at d ++ (xors (take 16 (drop at s)) pad ++ drop 16 (drop at d))
 
+-- the plaintext's block at place `at` of s: its sum with its pad where s is opened, and where it is sealed its own
+abbrev pub plainBlock : Bool → List ℕ → ℕ → List ℕ → List ℕ
+plainBlock opening s at pad = when opening (xors (take 16 (drop at s)) pad) (take 16 (drop at s))
+
 -- document 01: 11 where the counter field would run over
 abbrev pub counterFits : ℕ → ℕ → ℕ → Bool
 counterFits w i n = leb (i + blocks n) (256 ^ w)

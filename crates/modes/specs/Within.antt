@@ -4,10 +4,14 @@ use mathlib.Core.Path.{_≡_}
 use Prim.Native.Nat.{ℕ, _+_, _≤_}
 use mathlib.Core.List.{List}
 use lib.ListN.{length}
+use Rattle.octets.specs.Xor.{xors}
+use Rattle.octets.specs.Same.{same}
+use Rattle.octets.specs.Blocks.{cut, chain}
 use Rattle.aes.specs.State.{State}
 use Rattle.aes_fast.specs.ByTables.{Tables}
 use Rattle.aes_fast.specs.Right.{Ready}
-use Rattle.modes.specs.Calls.{dataMax, textMax}
+use Rattle.modes.specs.Calls.{dataMax, textMax, openedAnswer}
+use Rattle.modes.specs.Counter.{counterBlock, ctr}
 
 -- an IV of 12 bytes, and room for the text and a tag of 16
 abbrev pub SealsWith : Tables → List State → List ℕ → List ℕ → List ℕ → List ℕ → ℕ → Type 0
@@ -20,3 +24,11 @@ VerifiesWith t ks iv a b c tag = Ready t ks × (length iv ≡ 12) × (length a +
 -- the same, and room for the text
 abbrev pub OpensWith : Tables → List State → List ℕ → List ℕ → List ℕ → List ℕ → List ℕ → ℕ → Type 0
 OpensWith t ks iv a b c tag room = VerifiesWith t ks iv a b c tag × (length c ≤ room)
+
+-- a text whose pads CCM makes before its chain
+abbrev pub shortMax : ℕ
+shortMax = 240
+
+-- what CCM's tag decides, and the output after it, from the counter blocks' front and the chain's state y before the plaintext (SP 800-38C, 6.2, steps 5 to 10)
+abbrev pub openedFrom : (List ℕ → List ℕ) → List ℕ → List ℕ → List ℕ → List ℕ → List ℕ → ℕ × List ℕ
+openedFrom f front y c t out = openedAnswer (same t (xors (chain f y (cut (ctr f 3 front 1 c))) (f (counterBlock 3 front 0)))) (ctr f 3 front 1 c) out

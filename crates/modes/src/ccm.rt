@@ -1,8 +1,9 @@
 // CCM: SP 800-38C with a 12-byte nonce, a 3-byte length field and a 16-byte tag.
 use crate::counter::counter;
 use crate::counter::counter_block;
-use crate::passes::chain_opened;
-use crate::passes::seal_text;
+use crate::passes::pass;
+use crate::short::open_short;
+use crate::sizes::SHORT;
 use crate::tag::tag_number;
 use aes::RoundKeys;
 use aes_fast::Tables;
@@ -84,7 +85,7 @@ fn chain_start(t: &Tables, ks: &RoundKeys, base: Block, a: &[u8], b: &[u8], n: u
 }
 
 // The chain's last state with S0.
-fn tag_from(t: &Tables, ks: &RoundKeys, base: Block, y: Block) -> Block
+pub(crate) fn tag_from(t: &Tables, ks: &RoundKeys, base: Block, y: Block) -> Block
     requires { ⌜ Ready (now t) (now ks) ⌝ }
     ensures { λ r. ⌜ r ≡ xors y (cipher (now (ks .entry)) (counterBlock 3 (frontOf false base) 0)) ⌝ }
 {
@@ -106,13 +107,13 @@ pub(crate) fn seal(
     let n = p.len();
     let base = base_of(iv);
     let y = chain_start(t, ks, base, a, b, n);
-    let z = seal_text(t, ks, base, y, p, out);
+    let z = pass(t, ks, base, y, p, out, false);
     let tag = tag_from(t, ks, base, z);
     put(&mut out[n..], &tag);
     0
 }
 
-// 9, or 0 where the tag is right. The chain is lent no output: a plaintext that is not authentic has nowhere to go.
+// 9, or 0 where the tag is right. The pass is lent an output of no bytes: a plaintext that is not authentic has nowhere to go.
 pub(crate) fn verify(
     t: &Tables,
     ks: &RoundKeys,
@@ -127,7 +128,8 @@ pub(crate) fn verify(
 {
     let base = base_of(iv);
     let y = chain_start(t, ks, base, a, b, c.len());
-    let z = chain_opened(t, ks, base, y, c);
+    let mut none = [0u8; 0];
+    let z = pass(t, ks, base, y, c, &mut none, true);
     let right = tag_from(t, ks, base, z);
     tag_number(tag, &right)
 }
@@ -146,6 +148,11 @@ pub(crate) fn open(
     requires { ⌜ OpensWith (now t) (now ks) (now iv) (now a) (now b) (now c) (now tag) (length (now out)) ⌝ }
     ensures { λ r. ⌜ ccmOpened (cipher (now (ks .entry))) (now (iv .entry)) (now (a .entry) ++ now (b .entry)) (now (c .entry)) (now (tag .entry)) (now (out .entry)) ≡ (r, now (out .exit)) ⌝ }
 {
+    if c.len() <= SHORT {
+        let base = base_of(iv);
+        let y = chain_start(t, ks, base, a, b, c.len());
+        return open_short(t, ks, base, y, c, tag, out);
+    }
     let number = verify(t, ks, iv, a, b, c, tag);
     if 0 < number {
         return number;

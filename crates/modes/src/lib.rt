@@ -4,6 +4,7 @@ mod ccm;
 mod counter;
 mod gcm;
 mod passes;
+mod short;
 mod sizes;
 mod tag;
 

@@ -9,6 +9,9 @@ pub(crate) const DATA_MAX: usize = 4152;
 
 pub(crate) const TEXT_MAX: usize = 1048576;
 
+// How long a text is at most whose pads CCM makes before its chain.
+pub(crate) const SHORT: usize = 240;
+
 pub(crate) const CCM: u8 = 1;
 
 pub(crate) const GCM: u8 = 2;
