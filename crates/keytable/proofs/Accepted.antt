@@ -101,8 +101,9 @@ row-kept s e =
       use-fits = every-at (rowTests s) 4 e;
     }
 
--- row i of an accepted table
+-- row i where all are accepted, and so of an accepted table
+pub part-ok : (t : List ℕ) (i : ℕ) → all rowOk (rowParts t) ≡ true → i < rowCount t → rowOk (partOf t (rowPlace i) rowSize) ≡ true
+part-ok t i ok h = ap rowOk (sym (parts-at t i h)) ∙ all-at rowOk (rowParts t) i [] ok (simp length-parts h)
+
 pub part-kept : (t : List ℕ) (i : ℕ) → tableOk t ≡ true → i < rowCount t → RowKept (partOf t (rowPlace i) rowSize)
-part-kept t i ok h =
-    row-kept (partOf t (rowPlace i) rowSize)
-    (ap rowOk (sym (parts-at t i h)) ∙ all-at rowOk (rowParts t) i [] (accepted-rows t ok) (simp length-parts h))
+part-kept t i ok h = row-kept (partOf t (rowPlace i) rowSize) (part-ok t i (accepted-rows t ok) h)

@@ -1,5 +1,6 @@
 pub mod Accepted
 pub mod Lookup
+pub mod Marks
 pub mod Places
 pub mod Calls
 pub mod Laws

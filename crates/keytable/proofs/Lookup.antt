@@ -1,7 +1,7 @@
 -- The lookup of a type and a name along the rows of a table: its place, its row, and that no two rows have one type and name.
 -- Assumes nothing.
 use mathlib.Core.Path.{_≡_, refl, sym, ap, ap₂, _∙_}
-use mathlib.Core.Bool.{Bool, true, false, _&&_, not, false≢true}
+use mathlib.Core.Bool.{Bool, true, false, _&&_, not, false≢true, and-false}
 use mathlib.Core.List.{List, [], _∷_, _++_, map}
 use mathlib.Core.Option.{Option, some, none}
 use Prim.Native.Nat.{ℕ, zero, suc, _+_, _*_, _≤_, _<_}
@@ -10,16 +10,17 @@ use native.Mathlib.Numerals.{add-one}
 use native.Mathlib.Omega.{arith}
 use borrow.Author.Tests.{eqb-true, eq-eqb, le-leb, lt-leb, not-true}
 use lib.Dec.{eqb}
-use lib.ListN.{length, drop, drop-of-length-le}
+use lib.ListN.{length, take, drop, drop-of-length-le}
 use lib.Seq.{drop-cons, drop-drop}
 use Rattle.octets.specs.Same.{same}
 use Rattle.octets.specs.Lent.{when}
 use Rattle.octets.proofs.Tests.{and-left, and-right}
 use Rattle.octets.proofs.Same.{same-equal, same-refl}
 use Rattle.octets.specs.Tests.{all, partOf}
-use Rattle.keytable.specs.Row.{rowSize, Row, rowIn, matches}
+use Rattle.keytable.specs.Row.{rowSize, rowNameAt, nameLength, nameOf, Row, rowIn, matches}
 use Rattle.keytable.specs.Table.{tableHeadSize, rowPlace, headOk, rows, rowParts, rowsOf, noRow, rowNumber, rowCount, absent, distinct, holders, lookup, rowSizeAt, rowAt}
 use Rattle.keytable.specs.Find.{placeFrom, placeOf}
+use Rattle.keytable.specs.Marks.{lastOfItsPair}
 use Rattle.keytable.specs.declared.Found.the-variants.{At, Nothing, Broken}
 use Rattle.octets.proofs.Tests.{all-at}
 use Rattle.keytable.proofs.Accepted.{head-total, rowsOf-more, rowsOf-done, rowsOf-at}
@@ -46,6 +47,15 @@ module _ (type : ℕ) (name : List ℕ) (row : Row) where
       go : (b : Bool) → matches type name row ≡ b → b ≡ false
       go true e = let (kind, is) = matches-both e in absurd (never kind is)
       go false e = refl
+
+-- a row's name is as many of its bytes from the name's place on as it is long
+pub name-part : (s name : List ℕ) → nameOf s ≡ name → partOf s rowNameAt (length name) ≡ name
+name-part s name e = ap (λ (l : List ℕ). partOf s rowNameAt (length l)) (sym e) ∙ go (nameLength s) (drop rowNameAt s) ∙ e
+  where
+    go : (k : ℕ) (l : List ℕ) → take (length (take k l)) l ≡ take k l
+    go zero l = refl
+    go (suc k) [] = refl
+    go (suc k) (x ∷ l) = ap (λ (m : List ℕ). x ∷ m) (go k l)
 
 -- ---- placeFrom
 
@@ -92,21 +102,24 @@ placeFrom-present at type name (x ∷ xs) e = go (matches type name x) (placeFro
 
 -- along the rows: what is left at row i decides
 module _ (t : List ℕ) (i : ℕ) where
-  -- no later row has row i's type and name
-  abbrev pub lastOfItsPair : Bool
-  lastOfItsPair = let row = rowIn (partOf t (rowPlace i) rowSize) in absent (row .rowType) (row .rowName) (drop (i + 1) (rowsOf t))
-
-  pub distinct-stop : i < rowCount t → lastOfItsPair ≡ false → distinct (drop i (rowsOf t)) ≡ false
+  pub distinct-stop : i < rowCount t → lastOfItsPair t i ≡ false → distinct (drop i (rowsOf t)) ≡ false
   unfolding distinct
   distinct-stop h e = rw (drop-cons (rowsOf t) i noRow (rowsOf-more t i h), rowsOf-at t i h, ← add-one i, e)
 
-  pub distinct-turn : i < rowCount t → lastOfItsPair ≡ true → distinct (drop i (rowsOf t)) ≡ distinct (drop (i + 1) (rowsOf t))
+  pub distinct-turn : i < rowCount t → lastOfItsPair t i ≡ true → distinct (drop i (rowsOf t)) ≡ distinct (drop (i + 1) (rowsOf t))
   unfolding distinct
   distinct-turn h e = rw (drop-cons (rowsOf t) i noRow (rowsOf-more t i h), rowsOf-at t i h, ← add-one i, e) (rw add-one)
 
   pub distinct-end : rowCount t ≤ i → distinct (drop i (rowsOf t)) ≡ true
   unfolding distinct
   distinct-end h = rw (drop-of-length-le (rowsOf t) (rowsOf-done t i h))
+
+-- rows of which some last ones do not differ do not differ
+pub distinct-not : (xs : List Row) (i : ℕ) → distinct (drop i xs) ≡ false → distinct xs ≡ false
+unfolding distinct
+distinct-not xs zero e = e
+distinct-not [] (suc i) e = e
+distinct-not (x ∷ xs) (suc i) e = rw (distinct-not xs i e) (and-false (absent (x .rowType) (x .rowName) xs))
 
 -- what a list of rows without two of one type and name says of its first
 abbrev others : Row → List Row → Bool
@@ -134,7 +147,7 @@ module _ (type : ℕ) (name : List ℕ) where
       ap suc (distinct-one xs i j (and-right (others x xs) (distinct xs) e) (le-of-suc-le-suc hi) (le-of-suc-le-suc hj) a b)
 
 -- no row has this type and this name where none of them matches
-absent-each : (type : ℕ) (name : List ℕ) (xs : List Row) → ((j : ℕ) → j < length xs → matches type name (rowNumber xs j) ≡ false) → absent type name xs ≡ true
+pub absent-each : (type : ℕ) (name : List ℕ) (xs : List Row) → ((j : ℕ) → j < length xs → matches type name (rowNumber xs j) ≡ false) → absent type name xs ≡ true
 unfolding all
 absent-each type name [] each = refl
 absent-each type name (x ∷ xs) each = rw (each 0 (omega arith)) (absent-each type name xs (λ j h. each (suc j) (omega (arith, h))))

@@ -3,3 +3,4 @@ pub mod Table
 pub mod Calls
 pub mod Find
 pub mod Laws
+pub mod Marks

@@ -40,7 +40,7 @@ returns-2 : tie.Need-returns-2
 returns-2 c = sym (table-refused _ 1 (sym (c .before .rows-ok .ensures) ∙ not-true _ (c .if2 .taken)))
 
 rows-differ-requires : tie.Need-rows-differ-requires
-rows-differ-requires c κs = count (c .before .before)
+rows-differ-requires c κs = let (total, is) = count (c .before .before) in (total, is, rows-kept c)
 
 returns-3 : tie.Need-returns-3
 returns-3 c = sym (table-refused _ 2 (sym (c .before .rows-differ .ensures) ∙ not-true _ (c .if3 .taken)))
