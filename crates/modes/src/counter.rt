@@ -180,10 +180,12 @@ fn add_pairs(
         let pads = encrypt_two_from(t, ks, s, (k % 256) as u8, (later % 256) as u8);
         add_at(text, at, pads.one, out);
         add_at(text, next, pads.other, out);
-        let v = renewed(t, ks, base, wide, s, later);
-        s = v;
         at = next + 16;
         k = later + 1;
+        if k % 256 == 0 {
+            let v = start_at(t, ks, base, wide, k);
+            s = v;
+        }
     }
     add_rest(t, ks, base, wide, k, &text[at..n], &mut out[at..n]);
 }

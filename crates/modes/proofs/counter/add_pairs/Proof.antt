@@ -76,41 +76,55 @@ add-at-requires-2 c κs =
     let more = pair-within (at-loop .loop .at) (length (start .args .text .now)) (in-loop .loop-test .taken) in
     (more .1, partly-room (first after-add-at) (fits start) (more .1))
 
-renewed-requires : tie.Need-renewed-requires Inv-loop μ-loop
-renewed-requires c κs =
-    let at-loop = c .before .before .before .before .before .before .before .before .before .before in
-    let start = at-loop .before .before .before .before in
-    let l = at-loop .loop in
-    (start .pre .0, omega (arith, l .inv .2 .counted), serves-also (l .inv .1) (l .k + 1) (pair-same (l .k) (l .inv .0)))
-
 add-at : tie.Need-add-at Inv-loop μ-loop
 add-at c =
-    let in-loop = c .before .before .before .before .before .before .before .before .before .before in
+    let in-loop = c .before .before .before .before .before .before .before .before .before in
     let at-loop = in-loop .before in
     omega (arith, below at-loop (in-loop .loop-test .taken) .0)
 
 add-k : tie.Need-add-k Inv-loop μ-loop
 add-k c =
-    let in-loop = c .before .before .before .before .before .before .before .before .before .before in
+    let in-loop = c .before .before .before .before .before .before .before .before .before in
     let at-loop = in-loop .before in
     omega (arith, below at-loop (in-loop .loop-test .taken) .1)
 
-loop-again : tie.Need-loop-again Inv-loop μ-loop
-loop-again c =
-    let after-add-at2 = c .before .before .before in
-    let after-add-at = after-add-at2 .before .before .before .before in
+-- after the second block
+second : (c : tie.After-add-at2 Inv-loop μ-loop)
+    → (let at-loop = c .before .before .before .before .before .before .before .before in
+    let a = at-loop .before .before .before .before .args in
+    Partly (cipher (a .ks .now)) (width (a .wide)) (frontOf (a .wide) (a .base)) (a .i) (a .text .now) (a .out .now) (at-loop .loop .at + 16 + 16)
+    (at-loop .loop .k + 1 + 1) (c .add-at2 .last .1 .1 .1 .0))
+second c =
+    let after-add-at = c .before .before .before .before in
     let after-encrypt-two-from = after-add-at .before .before in
     let in-loop = after-encrypt-two-from .before in
     let at-loop = in-loop .before in
     let start = at-loop .before .before .before .before in
     let a = start .args in
     let l = at-loop .loop in
-    let more = pair-within (l .at) (length (a .text .now)) (in-loop .loop-test .taken) in (
-      pair-even (l .k) (l .inv .0),
-      c .renewed .ensures,
-      partly-block (first after-add-at) (fits start) (cipher-length (a .ks .now)) (more .1)
-          (after-encrypt-two-from .encrypt-two-from .ensures .1 ∙ l .inv .1 .pads (l .k + 1) (pair-same (l .k) (l .inv .0))) (after-add-at2 .add-at2 .ensures),
-    )
+    let more = pair-within (l .at) (length (a .text .now)) (in-loop .loop-test .taken) in
+    partly-block (first after-add-at) (fits start) (cipher-length (a .ks .now)) (more .1)
+    (after-encrypt-two-from .encrypt-two-from .ensures .1 ∙ l .inv .1 .pads (l .k + 1) (pair-same (l .k) (l .inv .0))) (c .add-at2 .ensures)
+
+start-at-requires-2 : tie.Need-start-at-requires-2 Inv-loop μ-loop
+start-at-requires-2 c κs =
+    let at-loop = c .before .before .before .before .before .before .before .before .before .before .before in
+    at-loop .before .before .before .before .pre .0
+
+loop-again : tie.Need-loop-again Inv-loop μ-loop
+loop-again c =
+    let after-add-at2 = c .before .before .before .before in
+    let at-loop = after-add-at2 .before .before .before .before .before .before .before .before in
+    let l = at-loop .loop in
+    (pair-even (l .k) (l .inv .0), c .start-at2 .ensures, second after-add-at2)
+
+-- the next counter differs in the last byte alone
+loop-again-2 : tie.Need-loop-again-2 Inv-loop μ-loop
+loop-again-2 c =
+    let after-add-at2 = c .before .before .before in
+    let at-loop = after-add-at2 .before .before .before .before .before .before .before .before in
+    let l = at-loop .loop in
+    (pair-even (l .k) (l .inv .0), serves-also (l .inv .1) (l .k + 1 + 1) (omega (arith, l .inv .0, c .if1 .left)), second after-add-at2)
 
 add-rest-requires : tie.Need-add-rest-requires Inv-loop μ-loop
 add-rest-requires c κs =
@@ -143,11 +157,13 @@ add-pairs-spec =
     (λ c. search needs) (λ c. search needs) (λ c κs. search needs)
     add-at-requires
     add-at-requires-2
-    renewed-requires
     add-at
     add-k
+    start-at-requires-2
     (λ c. search needs)
     loop-again
+    (λ c. search needs)
+    loop-again-2
     (λ c. search needs) (λ c. search needs) (λ c. search needs) (λ c. search needs)
     (λ c. search needs) (λ c. search needs)
     add-rest-requires
