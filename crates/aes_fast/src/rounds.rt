@@ -1,4 +1,4 @@
-// The rounds by tables, over a state in two words. A byte of a word is its place in a table.
+// The rounds by tables, over a state in two words, and in four for one block alone. A byte of a word is its place in a table.
 use crate::Tables;
 use crate::four_words::FourWords;
 use crate::four_words::four_words_from;

@@ -121,7 +121,7 @@ module _ (f : List ℕ → List ℕ) (size : (x : List ℕ) → length (f x) ≡
   front-is : frontOf false base ≡ counterFront iv
   front-is = ap (frontOf false) eb ∙ front-base iv h
 
-  text-counted : (s : List ℕ) → ccmText f iv s ≡ ctr f 3 (frontOf false base) 1 s
+  pub text-counted : (s : List ℕ) → ccmText f iv s ≡ ctr f 3 (frontOf false base) 1 s
   unfolding ccmText
   text-counted s = ap (λ (l : List ℕ). ctr f 3 l 1 s) (sym front-is)
 

@@ -22,11 +22,11 @@ use Rattle.octets.proofs.Blocks.{chain-turn}
 use Rattle.octets.proofs.Tests.{rest-all}
 use Rattle.modes.specs.Calls.{authenticTests, tagDecides}
 use Rattle.modes.specs.Counter.{stream, counterBlock, ctr, frontOf, counterAnswer}
-use Rattle.modes.specs.Ccm.{chainStart, counterFront, ccmText, ccmOpened}
+use Rattle.modes.specs.Ccm.{chainStart, counterFront, ccmOpened}
 use Rattle.modes.specs.Within.{shortMax, openedFrom}
 use Rattle.modes.proofs.Stream.{length-ctr}
 use Rattle.modes.proofs.Limits.{counterFits-three, counterAnswer-fits}
-use Rattle.modes.proofs.CcmFormat.{front-base, opened-number}
+use Rattle.modes.proofs.CcmFormat.{text-counted, opened-number}
 
 -- ---- a sum in parts
 
@@ -149,11 +149,7 @@ module _ (f : List ℕ → List ℕ) (size : (x : List ℕ) → length (f x) ≡
 
 module _ (f : List ℕ → List ℕ) (size : (x : List ℕ) → length (f x) ≡ 16) (iv a : List ℕ) {base : List ℕ} (h : length iv ≡ 12)
     (eb : base ≡ counterFront iv ++ be 3 0) where
-  text-counted : (c : List ℕ) → ccmText f iv c ≡ ctr f 3 (frontOf false base) 1 c
-  unfolding ccmText
-  text-counted c = ap (λ (l : List ℕ). ctr f 3 l 1 c) (sym (ap (frontOf false) eb ∙ front-base iv h))
-
   pub short-opened : (c t out : List ℕ) {y : List ℕ} {x : ℕ × List ℕ} → length t ≡ 16 → y ≡ chainStart f (drop 1 (frontOf false base)) a (length c)
       → openedFrom f (frontOf false base) y c t out ≡ x → ccmOpened f iv a c t out ≡ x
   short-opened c t out ht ey e =
-      ap₂ (λ (n : ℕ) (s : List ℕ). answer n s out) (sym (opened-number f size iv a h eb c t ht ey refl refl refl)) (text-counted c) ∙ e
+      ap₂ (λ (n : ℕ) (s : List ℕ). answer n s out) (sym (opened-number f size iv a h eb c t ht ey refl refl refl)) (text-counted f size iv a h eb c) ∙ e

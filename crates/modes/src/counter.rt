@@ -105,7 +105,7 @@ pub(crate) fn renewed(
 }
 
 // A block or less, with counter k.
-pub(crate) fn add_single(
+fn add_single(
     t: &Tables,
     ks: &RoundKeys,
     base: Block,
