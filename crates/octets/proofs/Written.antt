@@ -1,4 +1,4 @@
--- Strings written in parts: a part of the output that was lent and came back; what is made of each byte, and a sum, written byte by byte.
+-- Strings written in parts: a part of the output that was lent and came back; what is made of each byte, and a sum, written byte by byte; parts of zeros.
 -- Assumes nothing.
 use mathlib.Core.Path.{_≡_, refl, sym, ap, ap₂, _∙_}
 use mathlib.Core.List.{List, [], _∷_, _++_, append-assoc, append-nil, map, map-append}
@@ -64,14 +64,27 @@ map-turn f b r i hb hr done =
     (take-suc-set r i (f (getD b i 0)) hr ∙ ap (λ (l : List ℕ). l ++ f (getD b i 0) ∷ []) done
     ∙ sym (ap (map f) (take-suc b i 0 hb) ∙ map-append f (take i b) (getD b i 0 ∷ [])))
 
--- ---- a sum written byte by byte over zeros: the next byte, and after the last; and over an output that is as long
+-- ---- parts of zeros, and a string over them
 
 drop-zeros : (n k : ℕ) → drop {A = ℕ} n (replicate k 0) ≡ replicate (k - n) 0
 drop-zeros zero k = rw (sub-zero k)
 drop-zeros (suc n) zero = rw (zero-sub (suc n))
 drop-zeros (suc n) (suc k) = rw (suc-sub-suc k n) (drop-zeros n k)
 
-getD-xors : (a b : List ℕ) (j : ℕ) → j < length a → j < length b → getD (xors a b) j 0 ≡ bitXor (getD a j 0) (getD b j 0)
+take-zeros : (n k : ℕ) → n ≤ k → take {A = ℕ} n (replicate k 0) ≡ replicate n 0
+take-zeros zero k h = refl
+take-zeros (suc n) zero h = absurd (not-suc-le-zero h)
+take-zeros (suc n) (suc k) h = ap (λ (l : List ℕ). 0 ∷ l) (take-zeros n k (le-of-suc-le-suc h))
+
+pub part-zeros : (k at n : ℕ) → at + n ≤ k → take {A = ℕ} n (drop at (replicate k 0)) ≡ replicate n 0
+part-zeros k at n h = ap (take n) (drop-zeros at k) ∙ take-zeros n (k - at) (omega arith)
+
+pub over-filled : (s : List ℕ) → length s ≤ 16 → over s (replicate 16 0) ≡ fill s
+over-filled s h = over-fits s (replicate 16 0) h ∙ ap (λ (l : List ℕ). s ++ l) (drop-zeros (length s) 16)
+
+-- ---- a sum written byte by byte over zeros: the next byte, and after the last; and over an output that is as long
+
+pub getD-xors : (a b : List ℕ) (j : ℕ) → j < length a → j < length b → getD (xors a b) j 0 ≡ bitXor (getD a j 0) (getD b j 0)
 getD-xors [] b j h k = absurd (not-suc-le-zero h)
 getD-xors (x ∷ a) [] j h k = absurd (not-suc-le-zero k)
 getD-xors (x ∷ a) (y ∷ b) zero h k = refl

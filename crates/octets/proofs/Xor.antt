@@ -6,9 +6,9 @@ use Prim.Native.Nat.{ℕ, zero, suc, _+_, _*_, _/_, _%_, _≤_, _<_}
 use native.Mathlib.Nat.{le-of-suc-le-suc, not-suc-le-zero, mod-lt, zero-mul, one-mul}
 use native.Mathlib.Omega.{arith}
 use lib.Arith.{bin-ind}
-use lib.Bits.{bitXor, differ, xor-step, xor-shr, xor-mod, xor-lt, xor-comm, xor-self, xor-zero-r}
+use lib.Bits.{bitXor, differ, xor-step, xor-shr, xor-mod, xor-lt, xor-comm, xor-self, xor-zero-l, xor-zero-r}
 use lib.Dec.{lit<}
-use lib.ListN.{length, getD, replicate}
+use lib.ListN.{length, getD, take, replicate}
 use Rattle.octets.specs.Values.{values}
 use Rattle.octets.specs.Bytes.{Bytes}
 use Rattle.octets.specs.Xor.{xors}
@@ -104,6 +104,11 @@ pub xors-zeros : (l : List ℕ) (n : ℕ) → length l ≡ n → xors l (replica
 xors-zeros [] n h = refl
 xors-zeros (x ∷ l) zero h = absurd (omega arith)
 xors-zeros (x ∷ l) (suc n) h = cons-equal (xor-zero-r x) (xors-zeros l n (omega arith))
+
+pub zeros-xors : (n : ℕ) (l : List ℕ) → n ≤ length l → xors (replicate n 0) l ≡ take n l
+zeros-xors zero l h = refl
+zeros-xors (suc n) [] h = absurd (not-suc-le-zero h)
+zeros-xors (suc n) (y ∷ l) h = cons-equal (xor-zero-l y) (zeros-xors n l (le-of-suc-le-suc h))
 
 pub xors-append : (a b c d : List ℕ) → length a ≡ length c → xors (a ++ b) (c ++ d) ≡ xors a c ++ xors b d
 xors-append [] b [] d e = refl
