@@ -4,7 +4,7 @@ use mathlib.Core.Path.{_≡_, ap, _∙_}
 use mathlib.Core.List.{[], _∷_}
 use Prim.Native.Nat.{ℕ, _+_, _*_, _/_, _%_, _^_, _<_}
 use native.Mathlib.Omega.{arith}
-use lib.Bits.{bitXor, xor-shr, xor-mod}
+use lib.Bits.{bitXor, xor-comm, xor-shr, xor-mod}
 use Rattle.octets.proofs.Values.{four}
 use Rattle.aes_field.specs.Words.{Column, columnOf}
 use Rattle.aes.specs.Cipher.{addColumn}
@@ -20,11 +20,13 @@ xor-row a b k = ap (λ (x : ℕ). x % 2 ^ 8) (xor-shr a b k) ∙ xor-mod (a / 2 
 pub columnFrom-xor : (a b : ℕ) → columnFrom (bitXor a b) ≡ addColumn (columnFrom a) (columnFrom b)
 columnFrom-xor a b = rw (columnFrom-is (bitXor a b), columnFrom-is a, columnFrom-is b) (four (xor-mod a b 8) (xor-row a b 8) (xor-row a b 16) (xor-row a b 24))
 
+-- of four words, where the second stands before the first
 pub columnFrom-xor-four : (a b c d : ℕ)
-    → columnFrom (bitXor (bitXor (bitXor a b) c) d) ≡ addColumn (addColumn (addColumn (columnFrom a) (columnFrom b)) (columnFrom c)) (columnFrom d)
+    → columnFrom (bitXor (bitXor (bitXor b a) c) d) ≡ addColumn (addColumn (addColumn (columnFrom a) (columnFrom b)) (columnFrom c)) (columnFrom d)
 columnFrom-xor-four a b c d =
-    columnFrom-xor (bitXor (bitXor a b) c) d
-    ∙ ap (λ (x : Column). addColumn x (columnFrom d)) (columnFrom-xor (bitXor a b) c ∙ ap (λ (x : Column). addColumn x (columnFrom c)) (columnFrom-xor a b))
+    columnFrom-xor (bitXor (bitXor b a) c) d
+    ∙ ap (λ (x : Column). addColumn x (columnFrom d))
+    (columnFrom-xor (bitXor b a) c ∙ ap (λ (x : Column). addColumn x (columnFrom c)) (ap columnFrom (xor-comm b a) ∙ columnFrom-xor a b))
 
 -- ---- of bytes
 

@@ -4,6 +4,7 @@ mod Pairs
 mod Steps
 mod Shared
 mod Fed
+mod Three
 mod Restored
 mod Strings
 mod Starts

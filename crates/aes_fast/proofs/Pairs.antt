@@ -41,10 +41,10 @@ place-6 w = omega arith
 place-7 : (w : ℕ) → w / 72057594037927936 ≡ w / 4294967296 / 16777216
 place-7 w = omega arith
 
-high-1 : (w : ℕ) → w / 1099511627776 % 256 ≡ getD (columnFrom (w / 4294967296)) 1 0
+pub high-1 : (w : ℕ) → w / 1099511627776 % 256 ≡ getD (columnFrom (w / 4294967296)) 1 0
 high-1 w = ap (λ (n : ℕ). n % 256) (place-5 w) ∙ row-1 (w / 4294967296)
 
-high-2 : (w : ℕ) → w / 281474976710656 % 256 ≡ getD (columnFrom (w / 4294967296)) 2 0
+pub high-2 : (w : ℕ) → w / 281474976710656 % 256 ≡ getD (columnFrom (w / 4294967296)) 2 0
 high-2 w = ap (λ (n : ℕ). n % 256) (place-6 w) ∙ row-2 (w / 4294967296)
 
 pub high-3 : (w : ℕ) → w / 72057594037927936 % 256 ≡ getD (columnFrom (w / 4294967296)) 3 0
@@ -90,7 +90,7 @@ module _ (h : Halves) where
 
 -- ---- added
 
-high-xor : (a b : ℕ) → columnFrom (bitXor a b / 4294967296) ≡ addColumn (columnFrom (a / 4294967296)) (columnFrom (b / 4294967296))
+pub high-xor : (a b : ℕ) → columnFrom (bitXor a b / 4294967296) ≡ addColumn (columnFrom (a / 4294967296)) (columnFrom (b / 4294967296))
 high-xor a b = ap columnFrom (xor-shr a b 32) ∙ columnFrom-xor (a / 4294967296) (b / 4294967296)
 
 module _ (a b r : Halves) where
@@ -110,7 +110,7 @@ module _ (a b r : Halves) where
 
 -- ---- a round's four columns, by the bytes of the two words
 
-with-key : (k : State) (f : ℕ → ℕ → ℕ → ℕ → Column) (n : ℕ) {c : Column} {p q r s p′ q′ r′ s′ : ℕ}
+pub with-key : (k : State) (f : ℕ → ℕ → ℕ → ℕ → Column) (n : ℕ) {c : Column} {p q r s p′ q′ r′ s′ : ℕ}
     → c ≡ f p q r s → p ≡ p′ → q ≡ q′ → r ≡ r′ → s ≡ s′ → addColumn c (column k n) ≡ addColumn (f p′ q′ r′ s′) (column k n)
 with-key k f n e ep eq er es = rw (e, ep, eq, er, es)
 

@@ -47,11 +47,11 @@ module _ (t : Tables) (ks : List State) where
       ∙ ap₂ (λ (y : State) (n : ℕ). roundBy t y (getD ks n [])) p key
       ∙ ap (λ (n : ℕ). roundsAfter t ks m n s) more
 
-  -- the rounds after the first two, and the last
-  pub last-rounds : (i : ℕ) (s x r : State) → i ≡ 13 → r ≡ lastRoundBy t x (getD ks 14 []) → x ≡ roundsAfter t ks 2 (i - 2) s
-      → r ≡ laterRoundsBy t ks 2 s
-  last-rounds i s x r all e f =
-      e ∙ ap (λ (y : State). lastRoundBy t y (getD ks 14 [])) (f ∙ ap (λ (n : ℕ). roundsAfter t ks 2 (n - 2) s) all)
+  -- the rounds after the first m, and the last
+  pub last-rounds : (m i : ℕ) (s x r : State) → i ≡ 13 → r ≡ lastRoundBy t x (getD ks 14 []) → x ≡ roundsAfter t ks m (i - m) s
+      → r ≡ laterRoundsBy t ks m s
+  last-rounds m i s x r all e f =
+      e ∙ ap (λ (y : State). lastRoundBy t y (getD ks 14 [])) (f ∙ ap (λ (n : ℕ). roundsAfter t ks m (n - m) s) all)
 
   -- ---- from a block's halves to the halves of its cipher
 
@@ -62,10 +62,15 @@ module _ (t : Tables) (ks : List State) where
   block-of : (r : Halves) {x : State} → columnsOf r ≡ x → halvesBlock r ≡ bytesOf x
   block-of r e = halvesBlock-is r ∙ ap bytesOf e
 
-  pub cipherBy-all : (b : List ℕ) (x : State) (r : Halves) → x ≡ addRoundKey (stateFrom b) (getD ks 0 [])
+  cipherBy-all : (b : List ℕ) (x : State) (r : Halves) → x ≡ addRoundKey (stateFrom b) (getD ks 0 [])
       → columnsOf r ≡ laterRoundsBy t ks 0 x → halvesBlock r ≡ cipherBy t ks b
   unfolding roundsAfter roundsBy
   cipherBy-all b x r e f = block-of r f ∙ ap (λ (s : State). bytesOf (lastRoundBy t (roundsBy t ks 13 s) (getD ks 14 []))) e ∙ sym (cipherBy-is t ks b)
+
+  -- from the block b: its halves h, with the key k the halves x, and those as the state s
+  pub cipherBy-read : {b : List ℕ} (h k x r : Halves) {s : State} → halvesBlock h ≡ b → columnsOf k ≡ keyBytes (getD ks 0 [])
+      → halvesBlock x ≡ xors (halvesBlock h) (halvesBlock k) → s ≡ columnsOf x → columnsOf r ≡ laterRoundsBy t ks 0 s → halvesBlock r ≡ cipherBy t ks b
+  cipherBy-read h k x r {s} read key added e f = cipherBy-all (halvesBlock h) s r (e ∙ first-key h k x added key) f ∙ ap (cipherBy t ks) read
 
   pub cipherBy-two : (b : List ℕ) (x y z : State) (r : Halves) → x ≡ addRoundKey (stateFrom b) (getD ks 0 [])
       → y ≡ roundBy t x (getD ks 1 []) → z ≡ roundBy t y (getD ks 2 [])

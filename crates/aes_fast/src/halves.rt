@@ -26,7 +26,7 @@ pub struct Both {
     pub other: Halves,
 }
 
-fn half_of(a: u32, b: u32) -> u64
+pub(crate) fn half_of(a: u32, b: u32) -> u64
     ensures { λ r. ⌜ (columnFrom r ≡ columnFrom a) × (columnFrom (r / 4294967296) ≡ columnFrom b) ⌝ }
 {
     a as u64 + b as u64 * 4294967296

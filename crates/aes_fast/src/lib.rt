@@ -7,6 +7,7 @@ mod row_1;
 mod row_2;
 mod row_3;
 pub mod start;
+mod three_words;
 mod words;
 
 use aes::LAST_ROUND;
@@ -19,8 +20,8 @@ use halves::block;
 use halves::halves_from;
 use halves::halves_of;
 use octets::strings::Block;
-use rounds::last_round;
-use rounds::round;
+use rounds::last_of_three;
+use rounds::round_of_three;
 use rounds::rounds_after;
 use rounds::rounds_after_two;
 use row_0::ROW_0;
@@ -29,6 +30,8 @@ use row_2::ROW_2;
 use row_3::ROW_3;
 use start::Start;
 use start::begun;
+use three_words::three_words_from;
+use three_words::three_words_of;
 ghost use mathlib.Core.Path.{_≡_};
 ghost use Rattle.aes_fast.specs.ByTables.{cipherBy};
 ghost use Rattle.aes_fast.specs.Right.{roundTables};
@@ -74,22 +77,45 @@ pub fn encrypt_two_from(t: &Tables, ks: &RoundKeys, s: Start, low: u8, next: u8)
 pub fn encrypt_beside(t: &Tables, ks: &RoundKeys, b: Halves, s: Start, low: u8) -> Both
     ensures { λ r. ⌜ (halvesBlock (r .one) ≡ cipherBy (now (t .entry)) (now (ks .entry)) (halvesBlock b)) × (halvesBlock (r .other) ≡ cipherFrom (now (t .entry)) (now (ks .entry)) s low) ⌝ }
 {
-    let none = add_halves(b, halves_of(ks[0]));
-    let one = round(t, none, halves_of(ks[1]));
-    let mut x = round(t, one, halves_of(ks[2]));
-    let mut y = begun(t, s, low);
+    let none = three_words_from(add_halves(b, halves_of(ks[0])));
+    let one = round_of_three(t, none, three_words_of(ks[1]));
+    let mut x = round_of_three(t, one, three_words_of(ks[2]));
+    let mut y = three_words_from(begun(t, s, low));
     let mut i: usize = 2;
     while i < MIDDLE_ROUNDS {
-        let k = halves_of(ks[i + 1]);
-        let u = round(t, x, k);
-        let v = round(t, y, k);
+        let k = three_words_of(ks[i + 1]);
+        let u = round_of_three(t, x, k);
+        let v = round_of_three(t, y, k);
         x = u;
         y = v;
         i += 1;
     }
     let k = halves_of(ks[LAST_ROUND]);
     Both {
-        one: last_round(t, x, k),
-        other: last_round(t, y, k),
+        one: last_of_three(t, x, k),
+        other: last_of_three(t, y, k),
+    }
+}
+
+// Any two blocks.
+pub fn encrypt_two(t: &Tables, ks: &RoundKeys, b: Block, c: Block) -> Both
+    ensures { λ r. ⌜ Ciphered (now (t .entry)) (now (ks .entry)) (λ f. f b) (halvesBlock (r .one)) × Ciphered (now (t .entry)) (now (ks .entry)) (λ f. f c) (halvesBlock (r .other)) ⌝ }
+{
+    let first = halves_of(ks[0]);
+    let mut x = three_words_from(add_halves(halves_from(b), first));
+    let mut y = three_words_from(add_halves(halves_from(c), first));
+    let mut i: usize = 0;
+    while i < MIDDLE_ROUNDS {
+        let k = three_words_of(ks[i + 1]);
+        let u = round_of_three(t, x, k);
+        let v = round_of_three(t, y, k);
+        x = u;
+        y = v;
+        i += 1;
+    }
+    let k = halves_of(ks[LAST_ROUND]);
+    Both {
+        one: last_of_three(t, x, k),
+        other: last_of_three(t, y, k),
     }
 }

@@ -1,4 +1,4 @@
-// The rounds by tables, over a state in two words, and in four for one block alone. A byte of a word is its place in a table.
+// The rounds by tables, over a state in two words, in four for one block alone, and in three for two blocks. A byte of a word is its place in a table.
 use crate::Tables;
 use crate::four_words::FourWords;
 use crate::four_words::four_words_from;
@@ -8,6 +8,11 @@ use crate::halves::Halves;
 use crate::halves::add_halves;
 use crate::halves::from_columns;
 use crate::halves::halves_of;
+use crate::three_words::ThreeWords;
+use crate::three_words::halves_held;
+use crate::three_words::three_words_from;
+use crate::three_words::three_words_of;
+use crate::three_words::three_words_with;
 use aes::LAST_ROUND;
 use aes::MIDDLE_ROUNDS;
 use aes::RoundKeys;
@@ -16,12 +21,13 @@ ghost use Prim.Native.Nat.{_%_, _≤_};
 ghost use Rattle.aes_fast.specs.ByTables.{columnFrom, mixedBy, substitutedBy, roundBy, lastRoundBy, columnFed, laterRoundsBy};
 ghost use Rattle.aes_fast.specs.Halves.{columnsOf};
 ghost use Rattle.aes_fast.specs.FourWords.{columnsIn};
+ghost use Rattle.aes_fast.specs.ThreeWords.{columnsHeld};
 
 fn mixed_column(t: &Tables, a: u64, b: u64, c: u64, d: u64) -> u32
     ensures { λ r. ⌜ columnFrom r ≡ mixedBy (now (t .entry)) (a % 256) (b % 256) (c % 256) (d % 256) ⌝ }
 {
-    t[0][(a % 256) as usize]
-        ^ t[1][(b % 256) as usize]
+    t[1][(b % 256) as usize]
+        ^ t[0][(a % 256) as usize]
         ^ t[2][(c % 256) as usize]
         ^ t[3][(d % 256) as usize]
 }
@@ -105,6 +111,27 @@ fn round_of_four(t: &Tables, s: FourWords, k: FourWords) -> FourWords
     feed(t, z, s.d)
 }
 
+// A round of a state in three words. In this order, and with a column's terms in that of mixed_column, the compiler keeps the words of two blocks in registers.
+pub(crate) fn round_of_three(t: &Tables, s: ThreeWords, k: ThreeWords) -> ThreeWords
+    ensures { λ r. ⌜ columnsHeld r ≡ roundBy (now (t .entry)) (columnsHeld s) (columnsHeld k) ⌝ }
+{
+    let a = s.first;
+    let c = s.c as u64;
+    let d = s.d as u64;
+    let c0 = mixed_column(t, a, a / 1099511627776, c / 65536, d / 16777216);
+    let c1 = mixed_column(t, a / 4294967296, c / 256, d / 65536, a / 16777216);
+    let c3 = mixed_column(t, d, a / 256, a / 281474976710656, c / 16777216);
+    let c2 = mixed_column(t, c, d / 256, a / 65536, a / 72057594037927936);
+    three_words_with(c0, c1, c2, c3, k)
+}
+
+// The last round of a state in three words.
+pub(crate) fn last_of_three(t: &Tables, s: ThreeWords, k: Halves) -> Halves
+    ensures { λ r. ⌜ columnsOf r ≡ lastRoundBy (now (t .entry)) (columnsHeld s) (columnsOf k) ⌝ }
+{
+    last_round(t, halves_held(s), k)
+}
+
 // The rounds that are left after the first `done`.
 pub(crate) fn rounds_after(t: &Tables, ks: &RoundKeys, done: usize, s: Halves) -> Halves
     requires { ⌜ done ≤ 13 ⌝ }
@@ -126,20 +153,20 @@ pub(crate) fn rounds_after_two(t: &Tables, ks: &RoundKeys, s: Both) -> Both
     ensures { λ r. ⌜ columnsOf (r .one) ≡ laterRoundsBy (now (t .entry)) (now (ks .entry)) 2 (columnsOf (s .one)) ⌝ }
     ensures { λ r. ⌜ columnsOf (r .other) ≡ laterRoundsBy (now (t .entry)) (now (ks .entry)) 2 (columnsOf (s .other)) ⌝ }
 {
-    let mut x = s.one;
-    let mut y = s.other;
+    let mut x = three_words_from(s.one);
+    let mut y = three_words_from(s.other);
     let mut i: usize = 2;
     while i < MIDDLE_ROUNDS {
-        let k = halves_of(ks[i + 1]);
-        let u = round(t, x, k);
-        let v = round(t, y, k);
+        let k = three_words_of(ks[i + 1]);
+        let u = round_of_three(t, x, k);
+        let v = round_of_three(t, y, k);
         x = u;
         y = v;
         i += 1;
     }
     let k = halves_of(ks[LAST_ROUND]);
     Both {
-        one: last_round(t, x, k),
-        other: last_round(t, y, k),
+        one: last_of_three(t, x, k),
+        other: last_of_three(t, y, k),
     }
 }

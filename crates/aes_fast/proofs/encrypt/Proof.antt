@@ -1,11 +1,9 @@
 -- `aes_fast::encrypt` meets its contract: by what each call ensures, and since its parameters hold bytes.
 -- Assumes nothing.
 use borrow.Author.Needs.{needs}
-use mathlib.Core.Path.{ap, _∙_}
-use Prim.Native.Nat.{ℕ}
+use mathlib.Core.Path.{refl, _∙_}
 use Rattle.octets.proofs.Arrays.{array-bytes}
-use Rattle.aes_fast.specs.ByTables.{cipherBy}
-use Rattle.aes_fast.proofs.Steps.{first-key, cipherBy-all}
+use Rattle.aes_fast.proofs.Steps.{cipherBy-read}
 use Rattle.aes_fast.proofs.Cipher.{ciphered}
 use Rattle.aes_fast.proofs.encrypt.Statement.{statement}
 use Rattle.aes_fast.proofs.encrypt.Tie as tie
@@ -18,11 +16,10 @@ returns c =
     let read = key .before .before in
     let start = read .before in
     let a = start .args in
-    let h = read .halves-from .result in
-    let x = first-key (a .t .now) (a .ks .now) h (key .halves-of .result) (added .add-halves .result) (added .add-halves .ensures) (key .halves-of .ensures) in
     ciphered _ _ (array-bytes 16 (a .b) _ (start .good .1 .1 .0))
-    (c .block .ensures ∙ cipherBy-all (a .t .now) (a .ks .now) _ _ (rounds .rounds-after .result) x (rounds .rounds-after .ensures)
-    ∙ ap (cipherBy (a .t .now) (a .ks .now)) (read .halves-from .ensures))
+    (c .block .ensures
+    ∙ cipherBy-read (a .t .now) (a .ks .now) (read .halves-from .result) (key .halves-of .result) (added .add-halves .result) (rounds .rounds-after .result)
+    (read .halves-from .ensures) (key .halves-of .ensures) (added .add-halves .ensures) refl (rounds .rounds-after .ensures))
 
 pub encrypt-spec : {M : Type 1} → statement M
 encrypt-spec =

@@ -3,14 +3,14 @@
 use borrow.Author.Needs.{needs}
 use mathlib.Core.Path.{_≡_, ap, _∙_}
 use mathlib.Core.List.{[]}
-use Prim.Native.Nat.{ℕ, _≤_, _-_}
+use Prim.Native.Nat.{_≤_, _-_}
 use native.Mathlib.Omega.{arith}
 use lib.Dec.{lit≤}
 use lib.ListN.{getD}
-use Rattle.aes.specs.State.{State}
-use Rattle.aes_fast.specs.ByTables.{lastRoundBy, roundsAfter}
+use Rattle.aes_fast.specs.ByTables.{roundsAfter, laterRoundsBy}
+use Rattle.aes_fast.specs.Halves.{columnsOf}
 use Rattle.aes_fast.specs.FourWords.{columnsIn}
-use Rattle.aes_fast.proofs.Steps.{roundBy-key, lastRoundBy-key, roundsAfter-none, roundsAfter-more}
+use Rattle.aes_fast.proofs.Steps.{roundBy-key, lastRoundBy-key, roundsAfter-none, roundsAfter-more, last-rounds}
 use Rattle.aes_fast.proofs.rounds.rounds_after.Statement.{statement}
 use Rattle.aes_fast.proofs.rounds.rounds_after.Tie as tie
 
@@ -41,12 +41,10 @@ returns c =
     let l = at-loop .loop in
     let a = at-loop .before .before .args in
     let all : l .i ≡ 13 = omega arith in
-    lastRoundBy-key _ _ (getD (a .ks .now) 14 []) (c .last-round .ensures) (key .halves-of .ensures)
-    ∙ ap (λ (s : State). lastRoundBy (a .t .now) s (getD (a .ks .now) 14 []))
-    (made .from-columns .ensures
-    ∙ l .inv .2
-    ∙ ap (λ (n : ℕ). roundsAfter (a .t .now) (a .ks .now) (a .done) (n - a .done) (columnsIn (at-loop .before .four-words-from .result))) all
-    ∙ ap (roundsAfter (a .t .now) (a .ks .now) (a .done) (13 - a .done)) (at-loop .before .four-words-from .ensures))
+    last-rounds (a .t .now) (a .ks .now) (a .done) (l .i) (columnsIn (at-loop .before .four-words-from .result)) (columnsOf (made .from-columns .result)) _ all
+    (lastRoundBy-key _ _ (getD (a .ks .now) 14 []) (c .last-round .ensures) (key .halves-of .ensures))
+    (made .from-columns .ensures ∙ l .inv .2)
+    ∙ ap (laterRoundsBy (a .t .now) (a .ks .now) (a .done)) (at-loop .before .four-words-from .ensures)
 
 pub rounds-after-spec : {M : Type 1} → statement M
 rounds-after-spec =
