@@ -4,7 +4,7 @@ use Prim.Native.Nat.{ℕ, _+_, _-_, _^_}
 use mathlib.Core.Bool.{Bool, not}
 use mathlib.Core.List.{List, [], _∷_, _++_}
 use lib.Dec.{leb}
-use lib.ListN.{length, take, drop}
+use lib.ListN.{length, take, drop, replicate}
 use Rattle.octets.specs.Values.{values}
 use Rattle.octets.specs.BigEndian.{be}
 use Rattle.octets.specs.Xor.{xors}
@@ -30,6 +30,10 @@ withPad s at pad d = take at d ++ (xors (take 16 (drop at s)) pad ++ drop 16 (dr
 -- the plaintext's block at place `at` of s: its sum with its pad where s is opened, and where it is sealed its own
 abbrev pub plainBlock : Bool → List ℕ → ℕ → List ℕ → List ℕ
 plainBlock opening s at pad = when opening (xors (take 16 (drop at s)) pad) (take 16 (drop at s))
+
+-- what a pass adds the pads to where it writes: the string that is sealed, and zeros where it is opened, which leaves the pads themselves
+abbrev pub shownText : Bool → List ℕ → List ℕ
+shownText opening s = when opening (replicate (length s) 0) s
 
 -- document 01: 11 where the counter field would run over
 abbrev pub counterFits : ℕ → ℕ → ℕ → Bool

@@ -25,9 +25,9 @@ VerifiesWith t ks iv a b c tag = Ready t ks × (length iv ≡ 12) × (length a +
 abbrev pub OpensWith : Tables → List State → List ℕ → List ℕ → List ℕ → List ℕ → List ℕ → ℕ → Type 0
 OpensWith t ks iv a b c tag room = VerifiesWith t ks iv a b c tag × (length c ≤ room)
 
--- a text whose pads CCM makes before its chain
+-- a text whose pads CCM keeps while it opens it
 abbrev pub shortMax : ℕ
-shortMax = 240
+shortMax = 1024
 
 -- what CCM's tag decides, and the output after it, from the counter blocks' front and the chain's state y before the plaintext (SP 800-38C, 6.2, steps 5 to 10)
 abbrev pub openedFrom : (List ℕ → List ℕ) → List ℕ → List ℕ → List ℕ → List ℕ → List ℕ → ℕ × List ℕ

@@ -7,7 +7,8 @@ use crate::sizes::SHORT;
 use crate::tag::tag_number;
 use aes::RoundKeys;
 use aes_fast::Tables;
-use aes_fast::encrypt;
+use aes_fast::encrypt_two;
+use aes_fast::halves::block;
 use cbc_mac::absorb;
 use cbc_mac::close;
 use octets::big_endian::bytes16;
@@ -22,7 +23,6 @@ ghost use lib.ListN.{length, drop};
 ghost use Rattle.octets.specs.BigEndian.{be};
 ghost use Rattle.octets.specs.Blocks.{cut, chain};
 ghost use Rattle.octets.specs.Lent.{answer};
-ghost use Rattle.octets.specs.Xor.{xors};
 ghost use Rattle.aes.specs.Cipher.{cipher};
 ghost use Rattle.aes_fast.specs.Right.{Ready};
 ghost use Rattle.modes.specs.Calls.{dataMax, tagDecides};
@@ -74,22 +74,24 @@ fn chain_data(t: &Tables, ks: &RoundKeys, y: Block, a: &[u8], b: &[u8]) -> Block
     close(t, ks, 2 + n, v)
 }
 
-// The chain up to the payload, of n bytes.
-fn chain_start(t: &Tables, ks: &RoundKeys, base: Block, a: &[u8], b: &[u8], n: usize) -> Block
-    requires { ⌜ Ready (now t) (now ks) × (length (now a) + length (now b) ≤ dataMax) ⌝ }
-    ensures { λ r. ⌜ r ≡ chainStart (cipher (now (ks .entry))) (drop 1 (frontOf false base)) (now (a .entry) ++ now (b .entry)) n ⌝ }
-{
-    let with_data = a.len() + b.len() != 0;
-    let first = encrypt(t, ks, first_block(base, with_data, n));
-    chain_data(t, ks, first, a, b)
+// The chain's state before the payload, and S0.
+struct Begun {
+    chain: Block,
+    pad: Block,
 }
 
-// The chain's last state with S0.
-pub(crate) fn tag_from(t: &Tables, ks: &RoundKeys, base: Block, y: Block) -> Block
-    requires { ⌜ Ready (now t) (now ks) ⌝ }
-    ensures { λ r. ⌜ r ≡ xors y (cipher (now (ks .entry)) (counterBlock 3 (frontOf false base) 0)) ⌝ }
+// The chain up to the payload, of n bytes. The first block is ciphered beside counter block 0.
+fn chain_start(t: &Tables, ks: &RoundKeys, base: Block, a: &[u8], b: &[u8], n: usize) -> Begun
+    requires { ⌜ Ready (now t) (now ks) × (length (now a) + length (now b) ≤ dataMax) ⌝ }
+    ensures { λ r. ⌜ r .chain ≡ chainStart (cipher (now (ks .entry))) (drop 1 (frontOf false base)) (now (a .entry) ++ now (b .entry)) n ⌝ }
+    ensures { λ r. ⌜ r .pad ≡ cipher (now (ks .entry)) (counterBlock 3 (frontOf false base) 0) ⌝ }
 {
-    xor_blocks(y, encrypt(t, ks, counter_block(base, false, 0)))
+    let with_data = a.len() + b.len() != 0;
+    let first = first_block(base, with_data, n);
+    let both = encrypt_two(t, ks, first, counter_block(base, false, 0));
+    let chain = chain_data(t, ks, block(both.one), a, b);
+    let pad = block(both.other);
+    Begun { chain, pad }
 }
 
 pub(crate) fn seal(
@@ -106,9 +108,11 @@ pub(crate) fn seal(
 {
     let n = p.len();
     let base = base_of(iv);
-    let y = chain_start(t, ks, base, a, b, n);
-    let z = pass(t, ks, base, y, p, out, false);
-    let tag = tag_from(t, ks, base, z);
+    let begun = chain_start(t, ks, base, a, b, n);
+    let y = begun.chain;
+    let pad = begun.pad;
+    let z = pass(t, *ks, base, y, p, out, false, true);
+    let tag = xor_blocks(z, pad);
     put(&mut out[n..], &tag);
     0
 }
@@ -127,10 +131,12 @@ pub(crate) fn verify(
     ensures { λ r. ⌜ r ≡ tagDecides (ccmTagRight (cipher (now (ks .entry))) (now (iv .entry)) (now (a .entry) ++ now (b .entry)) (now (c .entry)) (now (tag .entry))) ⌝ }
 {
     let base = base_of(iv);
-    let y = chain_start(t, ks, base, a, b, c.len());
+    let begun = chain_start(t, ks, base, a, b, c.len());
+    let y = begun.chain;
+    let pad = begun.pad;
     let mut none = [0u8; 0];
-    let z = pass(t, ks, base, y, c, &mut none, true);
-    let right = tag_from(t, ks, base, z);
+    let z = pass(t, *ks, base, y, c, &mut none, true, false);
+    let right = xor_blocks(z, pad);
     tag_number(tag, &right)
 }
 
@@ -150,8 +156,10 @@ pub(crate) fn open(
 {
     if c.len() <= SHORT {
         let base = base_of(iv);
-        let y = chain_start(t, ks, base, a, b, c.len());
-        return open_short(t, ks, base, y, c, tag, out);
+        let begun = chain_start(t, ks, base, a, b, c.len());
+        let y = begun.chain;
+        let pad = begun.pad;
+        return open_short(t, ks, base, y, pad, c, tag, out);
     }
     let number = verify(t, ks, iv, a, b, c, tag);
     if 0 < number {

@@ -69,7 +69,7 @@ pub(crate) fn summed(text: &[u8], pad: Block) -> Block
 }
 
 // The block at place `at` of the text, with its pad, to the same place of the output.
-pub(crate) fn add_at(text: &[u8], at: usize, pad: Halves, out: &mut [u8])
+fn add_at(text: &[u8], at: usize, pad: Halves, out: &mut [u8])
     requires { ⌜ (at + 16 ≤ length (now text)) × (at + 16 ≤ length (now out)) ⌝ }
     ensures { λ _. ⌜ now (out .exit) ≡ withPad (now (text .entry)) at (halvesBlock pad) (now (out .entry)) ⌝ }
 {
@@ -160,34 +160,34 @@ fn add_rest(
 // Two blocks a call, and then what is left, from an even counter i on: a pair's counters differ in the last byte alone.
 fn add_pairs(
     t: &Tables,
-    ks: &RoundKeys,
+    ks: RoundKeys,
     base: Block,
     wide: bool,
     i: usize,
     text: &[u8],
     out: &mut [u8],
 )
-    requires { ⌜ Ready (now t) (now ks) × (length (now out) ≡ length (now text)) × (i % 2 ≡ 0) × (i ≤ 3) ⌝ }
-    ensures { λ _. ⌜ now (out .exit) ≡ ctr (cipher (now (ks .entry))) (width wide) (frontOf wide base) i (now (text .entry)) ⌝ }
+    requires { ⌜ Ready (now t) ks × (length (now out) ≡ length (now text)) × (i % 2 ≡ 0) × (i ≤ 3) ⌝ }
+    ensures { λ _. ⌜ now (out .exit) ≡ ctr (cipher ks) (width wide) (frontOf wide base) i (now (text .entry)) ⌝ }
 {
     let n = text.len();
     let mut at = 0;
     let mut k = i;
-    let mut s = start_at(t, ks, base, wide, i);
+    let mut s = start_at(t, &ks, base, wide, i);
     while 32 <= n - at {
         let next = at + 16;
         let later = k + 1;
-        let pads = encrypt_two_from(t, ks, s, (k % 256) as u8, (later % 256) as u8);
+        let pads = encrypt_two_from(t, &ks, s, (k % 256) as u8, (later % 256) as u8);
         add_at(text, at, pads.one, out);
         add_at(text, next, pads.other, out);
         at = next + 16;
         k = later + 1;
         if k % 256 == 0 {
-            let v = start_at(t, ks, base, wide, k);
+            let v = start_at(t, &ks, base, wide, k);
             s = v;
         }
     }
-    add_rest(t, ks, base, wide, k, &text[at..n], &mut out[at..n]);
+    add_rest(t, &ks, base, wide, k, &text[at..n], &mut out[at..n]);
 }
 
 // The text added to the key stream from counter i on, over the front of the output; 11, and nothing written, where the field would run over.
@@ -211,7 +211,7 @@ pub(crate) fn counter(
     add_single(t, ks, base, wide, i, &text[..head], &mut out[..head]);
     add_pairs(
         t,
-        ks,
+        *ks,
         base,
         wide,
         i + i % 2,

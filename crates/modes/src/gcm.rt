@@ -4,7 +4,8 @@ use crate::counter::counter_block;
 use crate::tag::tag_number;
 use aes::RoundKeys;
 use aes_fast::Tables;
-use aes_fast::encrypt;
+use aes_fast::encrypt_two;
+use aes_fast::halves::block;
 use ghash::hash::ghash_parts;
 use octets::strings::Block;
 use octets::strings::first16;
@@ -44,16 +45,15 @@ fn lengths_block(a_len: usize, c_len: usize) -> Block
     counter_block(b, false, 8 * c_len)
 }
 
-// The tag of a ciphertext. The associated data is a and then b.
+// The tag of a ciphertext. The associated data is a and then b. The hash key is made beside the tag's pad.
 fn tag_of(t: &Tables, ks: &RoundKeys, base: Block, a: &[u8], b: &[u8], c: &[u8]) -> Block
     requires { ⌜ Ready (now t) (now ks) × (length (now a) + length (now b) ≤ dataMax) × (length (now c) ≤ textMax) ⌝ }
     ensures { λ r. ⌜ r ≡ gcmTag (cipher (now (ks .entry))) (frontOf true base) (now (a .entry) ++ now (b .entry)) (now (c .entry)) ⌝ }
 {
-    let h = encrypt(t, ks, [0u8; 16]);
+    let both = encrypt_two(t, ks, [0u8; 16], counter_block(base, true, 1));
     let last = lengths_block(a.len() + b.len(), c.len());
-    let s = ghash_parts(h, a, b, c, last);
-    let pad = encrypt(t, ks, counter_block(base, true, 1));
-    xor_blocks(s, pad)
+    let s = ghash_parts(block(both.one), a, b, c, last);
+    xor_blocks(s, block(both.other))
 }
 
 pub(crate) fn seal(

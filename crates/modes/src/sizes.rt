@@ -9,8 +9,8 @@ pub(crate) const DATA_MAX: usize = 4152;
 
 pub(crate) const TEXT_MAX: usize = 1048576;
 
-// How long a text is at most whose pads CCM makes before its chain.
-pub(crate) const SHORT: usize = 240;
+// How long a text is at most whose pads CCM keeps while it opens it.
+pub(crate) const SHORT: usize = 1024;
 
 pub(crate) const CCM: u8 = 1;
 

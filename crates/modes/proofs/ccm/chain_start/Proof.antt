@@ -1,4 +1,4 @@
--- `modes::ccm::chain_start` meets its contract: the cipher of the first block, and then the data.
+-- `modes::ccm::chain_start` meets its contract: the cipher of the first block, and then the data; and beside it the cipher of counter block 0.
 -- Assumes nothing.
 use mathlib.Core.Path.{ap, _∙_}
 use mathlib.Core.Bool.{false}
@@ -16,17 +16,27 @@ use Rattle.modes.proofs.ccm.chain_start.Tie as tie
 
 returns : tie.Need-returns
 returns c =
-    let begun = c .before in
-    let start = begun .before .before .before .before in
+    let chained = c .before in
+    let begun = chained .before in
+    let both = begun .before in
+    let counted = both .before in
+    let first = counted .before in
+    let start = first .before .before .before in
     let a = start .args in
-    c .chain-data .ensures
-    ∙ ap (λ (y : List ℕ). chain (cipher (a .ks .now)) y (dataBlocks (a .a .now ++ a .b .now)))
-    (begun .encrypt .ensures .by-cipher (start .pre .0)
-    ∙ ap (cipher (a .ks .now)) (begun .before .first-block .ensures ∙ firstBlock-parts (drop 1 (frontOf false (a .base))) (a .a .now) (a .b .now) (a .n)))
+    let F = cipher (a .ks .now) in
+    let ciphered = both .encrypt-two .ensures in (
+      chained .chain-data .ensures
+          ∙ ap (λ (y : List ℕ). chain F y (dataBlocks (a .a .now ++ a .b .now)))
+          (begun .block .ensures
+          ∙ ciphered .0 .by-cipher (start .pre .0)
+          ∙ ap F (first .first-block .ensures ∙ firstBlock-parts (drop 1 (frontOf false (a .base))) (a .a .now) (a .b .now) (a .n))),
+      c .block2 .ensures ∙ ciphered .1 .by-cipher (start .pre .0) ∙ ap F (counted .counter-block .ensures),
+    )
 
 pub chain-start-spec : {M : Type 1} → statement M
 chain-start-spec =
     tie.close
     (tie.spec
     (λ c. search needs) (λ c κs. search needs) (λ c κs. search needs) (λ c κs. search needs)
+    (λ c κs. search needs) (λ c κs. search needs) (λ c κs. search needs)
     returns)

@@ -16,17 +16,23 @@ use Rattle.modes.proofs.ccm.open.Tie as tie
 returns : tie.Need-returns
 returns c =
     let opened = c .before .before in
-    let begun = opened .before .before in
+    let begun = opened .before .before .before .before in
     let based = begun .before in
     let start = based .before .before .before .before .before .before .before .before in
     let a = start .args in
     short-opened (cipher (a .ks .now)) (cipher-length (a .ks .now)) (a .iv .now) (a .a .now ++ a .b .now) (start .pre .0 .1) (based .base-of .ensures)
-    (a .c .now) (a .tag .now) (a .out .now) (start .pre .0 .4) (begun .chain-start .ensures) (opened .open-short .ensures)
+    (a .c .now) (a .tag .now) (a .out .now) (start .pre .0 .4) (begun .chain-start .ensures .0) (opened .open-short .ensures)
 
 returns-2 : tie.Need-returns-2
 returns-2 c =
     let a = c .before .before .before .before .before .before .before .before .before .args in
     answer-refusal (ccmText (cipher (a .ks .now)) (a .iv .now) (a .c .now)) (a .out .now) (c .before .verify .ensures) (λ e. omega arith)
+
+open-short-requires : tie.Need-open-short-requires
+open-short-requires c κs =
+    let begun = c .before .before .before in
+    let start = begun .before .before .before .before .before .before .before .before .before in
+    (start .pre .0 .0, omega (arith, begun .before .before .if1 .taken), start .pre .1, begun .chain-start .ensures .1)
 
 counter-requires : tie.Need-counter-requires
 counter-requires c κs =
@@ -47,7 +53,7 @@ pub open-spec : {M : Type 1} → statement M
 open-spec =
     tie.close
     (tie.spec
-    (λ c κs. search needs) (λ c κs. search needs) (λ c κs. search needs) (λ c. search needs)
+    (λ c κs. search needs) (λ c κs. search needs) open-short-requires (λ c. search needs)
     returns
     (λ c κs. search needs)
     returns-2

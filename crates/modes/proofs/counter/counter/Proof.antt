@@ -53,7 +53,7 @@ add-single-requires c κs =
 
 add-pairs-requires : tie.Need-add-pairs-requires
 add-pairs-requires c κs =
-    let after-add-single = c .before .before .before .before in
+    let after-add-single = c .before .before .before .before .before in
     let after-least = after-add-single .before .before .before in
     let start = after-least .before .before .before .before .before in
     let a = start .args in
@@ -67,7 +67,7 @@ add-pairs-requires c κs =
 
 returns-2 : tie.Need-returns-2
 returns-2 c =
-    let after-add-single = c .before .before .before .before .before .before .before in
+    let after-add-single = c .before .before .before .before .before .before .before .before in
     let after-least = after-add-single .before .before .before in
     let else1 = after-least .before in
     let after-runs-over = else1 .before in

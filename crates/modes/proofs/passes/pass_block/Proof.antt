@@ -17,8 +17,8 @@ returns c =
     let after-add-halves = c .before in
     let after-plain-block = after-add-halves .before in
     let after-halves-at = after-plain-block .before in
-    let after-put-sealed = after-halves-at .before .before .before in
-    let start = after-put-sealed .before .before .before .before in
+    let after-put-shown = after-halves-at .before .before .before in
+    let start = after-put-shown .before .before .before .before in
     let a = start .args in
     let sum = after-add-halves .add-halves in
     let both = c .encrypt-beside .ensures in (
@@ -30,7 +30,7 @@ returns c =
           (after-plain-block .plain-block .ensures
           ∙ ap (λ (b : List ℕ). when (a .opening) (xors b (halvesBlock (a .pad))) b)
           (after-halves-at .halves-at .ensures ∙ block-at-whole (a .text .now) (a .at) (start .pre .1)))),
-      (both .1, after-put-sealed .put-sealed .ensures),
+      (both .1, after-put-shown .put-shown .ensures),
     )
 
 pub pass-block-spec : {M : Type 1} → statement M
