@@ -1,12 +1,13 @@
 -- `modes::ccm::chain_start` meets its contract: the cipher of the first block, and then the data; and beside it the cipher of counter block 0.
 -- Assumes nothing.
-use mathlib.Core.Path.{ap, _∙_}
+use mathlib.Core.Path.{_≡_, ap, _∙_}
 use mathlib.Core.Bool.{false}
 use mathlib.Core.List.{List, _++_}
 use Prim.Native.Nat.{ℕ}
 use lib.ListN.{drop}
 use Rattle.octets.specs.Blocks.{chain}
 use Rattle.aes.specs.Cipher.{cipher}
+use Rattle.aes_fast.specs.Halves.{halvesBlock}
 use Rattle.modes.specs.Counter.{frontOf}
 use Rattle.modes.specs.Ccm.{dataBlocks}
 use Rattle.modes.proofs.CcmFormat.{firstBlock-parts}
@@ -24,13 +25,14 @@ returns c =
     let start = first .before .before .before in
     let a = start .args in
     let F = cipher (a .ks .now) in
-    let ciphered = both .encrypt-two .ensures in (
+    let ciphered = both .encrypt-two .ensures in
+    let s₀ : c .block2 .result ≡ halvesBlock (both .encrypt-two .result .other) = c .block2 .ensures in (
       chained .chain-data .ensures
           ∙ ap (λ (y : List ℕ). chain F y (dataBlocks (a .a .now ++ a .b .now)))
           (begun .block .ensures
           ∙ ciphered .0 .by-cipher (start .pre .0)
           ∙ ap F (first .first-block .ensures ∙ firstBlock-parts (drop 1 (frontOf false (a .base))) (a .a .now) (a .b .now) (a .n))),
-      c .block2 .ensures ∙ ciphered .1 .by-cipher (start .pre .0) ∙ ap F (counted .counter-block .ensures),
+      s₀ ∙ ciphered .1 .by-cipher (start .pre .0) ∙ ap F (counted .counter-block .ensures),
     )
 
 pub chain-start-spec : {M : Type 1} → statement M

@@ -8,6 +8,8 @@ use lib.ListN.{length}
 use Rattle.octets.proofs.Lent.{over-whole}
 use Rattle.aes.specs.Cipher.{cipher}
 use Rattle.aes.proofs.Laws.{cipher-length}
+use Rattle.aes_fast.specs.Halves.{halvesBlock}
+use Rattle.aes_fast.specs.Start.{cipherFrom}
 use Rattle.modes.specs.Counter.{width, frontOf}
 use Rattle.modes.specs.Pads.{Serves}
 use Rattle.modes.proofs.Limits.{pair-within, pair-even, pair-same}
@@ -48,8 +50,9 @@ first c =
     let at-loop = in-loop .before in
     let a = start at-loop .args in
     let l = at-loop .loop in
+    let pad : halvesBlock (ciphered .encrypt-two-from .result .one) ≡ cipherFrom (a .t .now) (a .t2) (l .s) (l .k % 256) = ciphered .encrypt-two-from .ensures .0 in
     partly-block (l .inv .2) (fits (start at-loop)) (cipher-length (a .t2)) (pair-within (l .at) (length (a .text .now)) (in-loop .loop-test .taken) .0)
-    (ciphered .encrypt-two-from .ensures .0 ∙ l .inv .1 .pads (l .k) refl) (c .add-at .ensures)
+    (pad ∙ l .inv .1 .pads (l .k) refl) (c .add-at .ensures)
 
 start-at-requires : tie.Need-start-at-requires Inv-loop μ-loop
 start-at-requires c κs = c .before .before .before .pre .0

@@ -1,8 +1,9 @@
 -- `modes::gcm::tag_of` meets its contract, step by step.
 -- Assumes nothing.
-use mathlib.Core.Path.{_∙_}
+use mathlib.Core.Path.{_≡_, _∙_}
 use mathlib.Core.Bool.{true}
 use Rattle.aes.specs.Cipher.{cipher}
+use Rattle.aes_fast.specs.Halves.{halvesBlock}
 use Rattle.modes.specs.Counter.{frontOf}
 use Rattle.modes.proofs.GcmTagged.{tag-steps}
 use borrow.Author.Needs.{needs}
@@ -20,9 +21,10 @@ returns c =
     let start = counted .before .before .before .before in
     let a = start .args in
     let ciphered = both .encrypt-two .ensures in
+    let other : pad .block2 .result ≡ halvesBlock (both .encrypt-two .result .other) = pad .block2 .ensures in
     tag-steps (cipher (a .ks .now)) (frontOf true (a .base)) (a .a .now) (a .b .now) (a .c .now) (key .block .ensures ∙ ciphered .0 .by-cipher (start .pre .0))
     (sized .lengths-block .ensures) (hashed .ghash-parts .ensures) (counted .counter-block .ensures)
-    (pad .block2 .ensures ∙ ciphered .1 .by-cipher (start .pre .0)) (c .xor-blocks .ensures)
+    (other ∙ ciphered .1 .by-cipher (start .pre .0)) (c .xor-blocks .ensures)
 
 pub tag-of-spec : {M : Type 1} → statement M
 tag-of-spec =
