@@ -11,7 +11,7 @@ use Rattle.octets.proofs.Values.{four}
 use Rattle.aes_field.specs.Words.{Column}
 use Rattle.aes.specs.State.{State, column, stateFrom, bytesOf}
 use Rattle.aes.specs.Cipher.{addColumn, addRoundKey}
-use Rattle.aes_fast.specs.ByTables.{Tables, columnFrom, mixedBy, substitutedBy, roundBy, lastRoundBy}
+use Rattle.aes_fast.specs.ByTables.{Tables, columnFrom, substitutedBy, lastRoundBy}
 use Rattle.aes_fast.specs.ByTables.Inside.{columnFrom-is}
 use Rattle.aes_fast.specs.Halves.{columnsOf, halvesBlock, wordBytes}
 use Rattle.aes_fast.specs.Halves.Inside.{columnsOf-is, halvesBlock-is}
@@ -108,7 +108,7 @@ module _ (a b r : Halves) where
   pub columnsOf-xor : halvesBlock r ≡ xors (halvesBlock a) (halvesBlock b) → columnsOf r ≡ addRoundKey (columnsOf a) (columnsOf b)
   columnsOf-xor e = columnsOf-block r ∙ ap stateFrom (e ∙ ap₂ xors (halvesBlock-is a) (halvesBlock-is b))
 
--- ---- a round's four columns, by the bytes of the two words
+-- ---- the last round's four columns, by the bytes of the two words
 
 pub with-key : (k : State) (f : ℕ → ℕ → ℕ → ℕ → Column) (n : ℕ) {c : Column} {p q r s p′ q′ r′ s′ : ℕ}
     → c ≡ f p q r s → p ≡ p′ → q ≡ q′ → r ≡ r′ → s ≡ s′ → addColumn c (column k n) ≡ addColumn (f p′ q′ r′ s′) (column k n)
@@ -122,21 +122,6 @@ module _ (h : Halves) where
   b = h .second
 
   module _ (t : Tables) (k : State) {c₀ c₁ c₂ c₃ : Column} where
-    pub roundBy-words :
-        c₀ ≡ mixedBy t (a % 256) (a / 1099511627776 % 256) (b / 65536 % 256) (b / 72057594037927936 % 256)
-        → c₁ ≡ mixedBy t (a / 4294967296 % 256) (b / 256 % 256) (b / 281474976710656 % 256) (a / 16777216 % 256)
-        → c₂ ≡ mixedBy t (b % 256) (b / 1099511627776 % 256) (a / 65536 % 256) (a / 72057594037927936 % 256)
-        → c₃ ≡ mixedBy t (b / 4294967296 % 256) (a / 256 % 256) (a / 281474976710656 % 256) (b / 16777216 % 256)
-        → addRoundKey (c₀ ∷ c₁ ∷ c₂ ∷ c₃ ∷ []) k ≡ roundBy t (columnsOf h) k
-    unfolding roundBy
-    roundBy-words e₀ e₁ e₂ e₃ =
-        four
-        (with-key k (mixedBy t) 0 e₀ (row-0 a) (high-1 a) (row-2 b) (high-3 b))
-        (with-key k (mixedBy t) 1 e₁ (row-0 (a / 4294967296)) (row-1 b) (high-2 b) (row-3 a))
-        (with-key k (mixedBy t) 2 e₂ (row-0 b) (high-1 b) (row-2 a) (high-3 a))
-        (with-key k (mixedBy t) 3 e₃ (row-0 (b / 4294967296)) (row-1 a) (high-2 a) (row-3 b))
-        ∙ ap (λ (s : State). roundBy t s k) (sym (columnsOf-is h))
-
     pub lastRoundBy-words :
         c₀ ≡ substitutedBy t (a % 256) (a / 1099511627776 % 256) (b / 65536 % 256) (b / 72057594037927936 % 256)
         → c₁ ≡ substitutedBy t (a / 4294967296 % 256) (b / 256 % 256) (b / 281474976710656 % 256) (a / 16777216 % 256)

@@ -18,10 +18,12 @@ use Rattle.aes_fast.specs.ByTables.Inside.{cipherBy-is}
 use Rattle.aes_fast.specs.Right.{wordFrom}
 use Rattle.aes_fast.specs.Halves.{columnsOf, halvesBlock, halvesFrom}
 use Rattle.aes_fast.specs.Halves.Inside.{columnsOf-is}
+use Rattle.aes_fast.specs.ThreeWords.{columnsHeld}
 use Rattle.aes_fast.specs.Start.{withLast, stateAfter, columnAdds, startBy, begunBy, cipherFrom}
 use Rattle.aes_fast.specs.Start.Inside.{start-key, start-first, start-second, cipherFrom-is}
 use Rattle.aes_fast.specs.declared.halves.Halves.{Halves}
 use Rattle.aes_fast.specs.declared.start.Start.{Start}
+use Rattle.aes_fast.specs.declared.three_words.ThreeWords.{ThreeWords}
 use Rattle.aes_fast.proofs.Pairs.{low-part, high-3, columnsOf-xor}
 use Rattle.aes_fast.proofs.Steps.{keyBytes, roundBy-key, first-key}
 use Rattle.aes_fast.proofs.Restored.{wordFrom-columnFrom, halvesFrom-columnsOf, bytes-columnFrom, bytes-mixedBy, columnFrom-sum, columnsOf-sum}
@@ -34,9 +36,6 @@ start-equal r s p q e =
     ap (λ (k : ℕ). let made : Start = record { key = k; first = r .first; second = r .second } in made) p
     ∙ ap₂ (λ (w : ℕ) (h : Halves). let made : Start = record { key = s .key; first = w; second = h } in made) q e
 
-column-0 : (h : Halves) → columnFrom (h .first % 4294967296) ≡ column (columnsOf h) 0
-column-0 h = low-part (h .first) ∙ ap (λ (s : State). column s 0) (sym (columnsOf-is h))
-
 last-byte : (h : Halves) → h .second / 72057594037927936 % 256 ≡ shifted (columnsOf h) 0 3
 last-byte h = high-3 (h .second) ∙ ap (λ (s : State). shifted s 0 3) (sym (columnsOf-is h))
 
@@ -46,18 +45,13 @@ module _ (t : Tables) (ks : List State) (b : List ℕ) where
   unfolding roundsBy
   after-0 h k x is key e = first-key t ks h k x e key ∙ ap (λ (l : List ℕ). addRoundKey (stateFrom l) (getD ks 0 [])) is
 
-  pub after-1 : (x k y : Halves) → columnsOf x ≡ stateAfter t ks 0 b → columnsOf k ≡ keyBytes (getD ks 1 []) → columnsOf y ≡ roundBy t (columnsOf x) (columnsOf k)
-      → columnsOf y ≡ stateAfter t ks 1 b
+  -- a round more
+  pub after-more : (n : ℕ) (x k y : State) → x ≡ stateAfter t ks n b → k ≡ keyBytes (getD ks (suc n) []) → y ≡ roundBy t x k → y ≡ stateAfter t ks (suc n) b
   unfolding roundsBy
-  after-1 x k y is key e = roundBy-key t (columnsOf x) (getD ks 1 []) e key ∙ ap (λ (s : State). roundBy t s (getD ks 1 [])) is
+  after-more n x k y is key e = roundBy-key t x (getD ks (suc n) []) e key ∙ ap (λ (s : State). roundBy t s (getD ks (suc n) [])) is
 
-  pub after-2 : (x k y : Halves) → columnsOf x ≡ stateAfter t ks 1 b → columnsOf k ≡ keyBytes (getD ks 2 []) → columnsOf y ≡ roundBy t (columnsOf x) (columnsOf k)
-      → columnsOf y ≡ stateAfter t ks 2 b
-  unfolding roundsBy
-  after-2 x k y is key e = roundBy-key t (columnsOf x) (getD ks 2 []) e key ∙ ap (λ (s : State). roundBy t s (getD ks 2 [])) is
-
-  pub start-steps : (r : Start) (x y z add : Halves)
-      → columnsOf x ≡ stateAfter t ks 0 b → columnsOf y ≡ stateAfter t ks 1 b → columnsOf z ≡ stateAfter t ks 2 b
+  pub start-steps : (r : Start) (x : Halves) (y : ThreeWords) (z add : Halves)
+      → columnsOf x ≡ stateAfter t ks 0 b → columnsHeld y ≡ stateAfter t ks 1 b → columnsOf z ≡ stateAfter t ks 2 b
       → r .key ≡ getD (column (getD ks 0 []) 3) 3 0
       → columnFrom (r .first) ≡ addColumn (columnFrom (y .first % 4294967296)) (tableEntry t 3 (x .second / 72057594037927936 % 256))
       → columnsOf add ≡ columnAdds t (columnFrom (y .first % 4294967296))
@@ -65,7 +59,7 @@ module _ (t : Tables) (ks : List State) (b : List ℕ) where
       → r .first < 4294967296 → r .second .first < 2 ^ 64 → r .second .second < 2 ^ 64
       → r ≡ startBy t ks b
   start-steps r x y z add ex ey ez key first adds second fits low high =
-      let u : columnFrom (y .first % 4294967296) ≡ column (stateAfter t ks 1 b) 0 = column-0 y ∙ ap (λ (s : State). column s 0) ey in
+      let u : columnFrom (y .first % 4294967296) ≡ column (stateAfter t ks 1 b) 0 = low-part (y .first) ∙ ap (λ (s : State). column s 0) ey in
       start-equal r (startBy t ks b) (key ∙ sym (start-key t ks b))
       (wordFrom-columnFrom (r .first) fits
       ∙ ap wordFrom

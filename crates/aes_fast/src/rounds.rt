@@ -1,4 +1,4 @@
-// The rounds by tables, over a state in two words, in four for one block alone, and in three for two blocks. A byte of a word is its place in a table.
+// The rounds by tables: of one block alone over a state in four words, else over one in three, and the last over one in two. A byte of a word is its place in a table.
 use crate::Tables;
 use crate::four_words::FourWords;
 use crate::four_words::four_words_from;
@@ -30,30 +30,6 @@ fn mixed_column(t: &Tables, a: u64, b: u64, c: u64, d: u64) -> u32
         ^ t[0][(a % 256) as usize]
         ^ t[2][(c % 256) as usize]
         ^ t[3][(d % 256) as usize]
-}
-
-pub(crate) fn round(t: &Tables, s: Halves, k: Halves) -> Halves
-    ensures { λ r. ⌜ columnsOf r ≡ roundBy (now (t .entry)) (columnsOf s) (columnsOf k) ⌝ }
-{
-    let a = s.first;
-    let b = s.second;
-    let c0 = mixed_column(t, a, a / 1099511627776, b / 65536, b / 72057594037927936);
-    let c1 = mixed_column(
-        t,
-        a / 4294967296,
-        b / 256,
-        b / 281474976710656,
-        a / 16777216,
-    );
-    let c2 = mixed_column(t, b, b / 1099511627776, a / 65536, a / 72057594037927936);
-    let c3 = mixed_column(
-        t,
-        b / 4294967296,
-        a / 256,
-        a / 281474976710656,
-        b / 16777216,
-    );
-    add_halves(from_columns(c0, c1, c2, c3), k)
 }
 
 // A column of the last round: from each table's word the row in which it has the byte's S-box value, once.

@@ -5,7 +5,10 @@ use crate::halves::add_halves;
 use crate::halves::from_columns;
 use crate::halves::halves_from;
 use crate::halves::halves_of;
-use crate::rounds::round;
+use crate::rounds::round_of_three;
+use crate::three_words::halves_held;
+use crate::three_words::three_words_from;
+use crate::three_words::three_words_of;
 use aes::RoundKeys;
 use octets::strings::Block;
 ghost use mathlib.Core.Path.{_≡_};
@@ -46,13 +49,13 @@ pub fn start_of(t: &Tables, ks: &RoundKeys, b: Block) -> Start
     ensures { λ r. ⌜ r ≡ startBy (now (t .entry)) (now (ks .entry)) b ⌝ }
 {
     let s = add_halves(halves_from(b), halves_of(ks[0]));
-    let one = round(t, s, halves_of(ks[1]));
-    let two = round(t, one, halves_of(ks[2]));
+    let one = round_of_three(t, three_words_from(s), three_words_of(ks[1]));
+    let two = round_of_three(t, one, three_words_of(ks[2]));
     let u = (one.first % 4294967296) as u32;
     Start {
         key: ks[0][3][3],
         first: add_entry(t, u, s.second / 72057594037927936),
-        second: add_halves(two, column_adds(t, u)),
+        second: add_halves(halves_held(two), column_adds(t, u)),
     }
 }
 
