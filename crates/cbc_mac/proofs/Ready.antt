@@ -1,21 +1,19 @@
 -- Along blocks of bytes the cipher by ready tables and keys is FIPS 197's, and so is a chain by it.
 -- Assumes nothing.
-use mathlib.Core.Path.{_≡_, refl, sym, ap, _∙_}
+use mathlib.Core.Path.{_≡_, refl, ap, _∙_}
 use mathlib.Core.Bool.{Bool, true, false}
 use mathlib.Core.List.{List, [], _∷_}
 use Prim.Native.Nat.{ℕ, _+_, _%_}
 use lib.Dec.{eqb}
-use lib.ListN.{length, length-set}
-use Rattle.octets.specs.Blocks.{IsBlock, cut, chain}
+use lib.ListN.{length-set}
+use Rattle.octets.specs.Blocks.{IsBlock}
 use Rattle.octets.specs.Bytes.{Bytes}
 use Rattle.octets.specs.Lent.{when}
 use Rattle.octets.specs.Running.{addAt, afterByte, absorb, close}
 use Rattle.octets.proofs.Bytes.{bytes-head, bytes-tail, bytes-set}
-use Rattle.octets.proofs.Running.{close-chain, length-absorb, bytes-absorb}
 use Rattle.octets.proofs.Xor.{xor-byte}
 use Rattle.aes.specs.State.{State}
 use Rattle.aes.specs.Cipher.{cipher}
-use Rattle.aes.proofs.Laws.{cipher-length}
 use Rattle.aes_fast.specs.ByTables.{Tables, cipherBy}
 use Rattle.aes_fast.specs.Laws.{Ciphered}
 use Rattle.aes_fast.specs.Right.{Ready}
@@ -58,20 +56,6 @@ module _ (t : Tables) (ks : List State) (ready : Ready t ks) where
       go true = refl
       go false = same y hy
 
-  pub chain-as-cipher : (y s : List ℕ) → IsBlock y → Bytes s → chain f y (cut s) ≡ chain (cipher ks) y (cut s)
-  chain-as-cipher y s hy hs =
-      sym (close-chain f y s (hy .size) (cipherBy-length t ks))
-      ∙ close-same (length s % 16) (absorb f 0 y s) after
-      ∙ ap (close (cipher ks) (length s % 16)) (absorb-same 0 y s hy hs)
-      ∙ close-chain (cipher ks) y s (hy .size) (cipher-length ks)
-    where
-      after : IsBlock (absorb f 0 y s)
-      after =
-          record {
-            size = length-absorb f (cipherBy-length t ks) 0 y s (hy .size);
-            bytes = bytes-absorb f (λ x. ready-bytes t ks x ready) 0 (hy .bytes) hs;
-          }
-
 -- ---- what a call says
 
 module _ (t : Tables) (ks : List State) (y : List ℕ) (hy : IsBlock y) {r : List ℕ} where
@@ -80,10 +64,3 @@ module _ (t : Tables) (ks : List State) (y : List ℕ) (hy : IsBlock y) {r : Lis
 
   pub close-ciphered : (k : ℕ) → r ≡ close (cipherBy t ks) k y → Ciphered t ks (λ f. close f k y) r
   close-ciphered k e = record { by-tables = e; by-cipher = λ ready. e ∙ close-same t ks ready k y hy }
-
-  pub chain-ciphered : (s : List ℕ) → Bytes s → r ≡ close (cipherBy t ks) (length s % 16) (absorb (cipherBy t ks) 0 y s)
-      → Ciphered t ks (λ f. chain f y (cut s)) r
-  chain-ciphered s hs e = record { by-tables = e ∙ along; by-cipher = λ ready. e ∙ along ∙ chain-as-cipher t ks ready y s hy hs }
-    where
-      along : close (cipherBy t ks) (length s % 16) (absorb (cipherBy t ks) 0 y s) ≡ chain (cipherBy t ks) y (cut s)
-      along = close-chain (cipherBy t ks) y s (hy .size) (cipherBy-length t ks)

@@ -5,7 +5,7 @@
 use mathlib.Core.Path.{_≡_}
 use Prim.Native.Nat.{ℕ, _%_}
 use mathlib.Core.List.{List}
-use Rattle.octets.specs.Blocks.{IsBlock, cut, chain}
+use Rattle.octets.specs.Blocks.{IsBlock}
 use Rattle.octets.specs.Bytes.{Bytes}
 use Rattle.octets.specs.Running.{absorb, close}
 use Rattle.octets.specs.Unique.{Unique}
@@ -23,10 +23,6 @@ AbsorbReady = (t : Tables) (ks : List State) (k : ℕ) (y s : List ℕ) → Read
 abbrev pub CloseReady : Type 0
 CloseReady = (t : Tables) (ks : List State) (k : ℕ) (y : List ℕ) → Ready t ks → IsBlock y → close (cipherBy t ks) k y ≡ close (cipher ks) k y
 
-abbrev pub ChainReady : Type 0
-ChainReady = (t : Tables) (ks : List State) (y s : List ℕ) → Ready t ks → IsBlock y → Bytes s
-    → chain (cipherBy t ks) y (cut s) ≡ chain (cipher ks) y (cut s)
-
 -- ---- one result, whatever the tables
 
 abbrev pub AbsorbUnique : Type 0
@@ -34,6 +30,3 @@ AbsorbUnique = (t : Tables) (ks : List State) (k : ℕ) (y part : List ℕ) → 
 
 abbrev pub CloseUnique : Type 0
 CloseUnique = (t : Tables) (ks : List State) (k : ℕ) (y : List ℕ) → Unique (close (cipherBy t ks) (k % 16) y)
-
-abbrev pub ChainUnique : Type 0
-ChainUnique = (t : Tables) (ks : List State) (y s : List ℕ) → Unique (chain (cipherBy t ks) y (cut s))

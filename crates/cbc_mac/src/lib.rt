@@ -9,7 +9,6 @@ use octets::strings::xor_blocks;
 ghost use mathlib.Core.Path.{_≡_};
 ghost use Prim.Native.Nat.{_+_, _%_, _≤_};
 ghost use lib.ListN.{length};
-ghost use Rattle.octets.specs.Blocks.{cut, chain};
 ghost use Rattle.octets.specs.Running.{addFrom, absorb, close};
 ghost use Rattle.aes_fast.specs.ByTables.{cipherBy};
 ghost use Rattle.aes_fast.specs.Laws.{Ciphered};
@@ -68,11 +67,4 @@ pub fn close(t: &Tables, ks: &RoundKeys, k: usize, y: Block) -> Block
         return y;
     }
     encrypt(t, ks, y)
-}
-
-// The chain along a string's blocks.
-pub fn chain_along(t: &Tables, ks: &RoundKeys, y: Block, s: &[u8]) -> Block
-    ensures { λ r. ⌜ Ciphered (now (t .entry)) (now (ks .entry)) (λ f. chain f y (cut (now (s .entry)))) r ⌝ }
-{
-    close(t, ks, s.len(), absorb_blocks(t, ks, y, s))
 }

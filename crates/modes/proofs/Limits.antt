@@ -43,9 +43,6 @@ module _ (base : List ℕ) (i : ℕ) (size : length base ≡ 16) where
 -- ---- blocks that are left from place `at` on, and pairs of counters
 
 module _ (at n : ℕ) where
-  pub block-within : 16 ≤ n - at → at + 16 ≤ n
-  block-within h = omega arith
-
   pub pair-within : 32 ≤ n - at → (at + 16 ≤ n) × (at + 16 + 16 ≤ n)
   pair-within h = (omega arith, omega arith)
 

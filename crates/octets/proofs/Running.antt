@@ -75,12 +75,6 @@ module _ (f : List ℕ → List ℕ) where
       place : ((k + 1) % 16 + length s) % 16 ≡ (k + suc (length s)) % 16
       place = omega arith
 
-  -- the byte at place i of s, of what is left from there
-  pub absorb-turn : (k : ℕ) (y s : List ℕ) (i : ℕ) → i < length s
-      → absorb f k y (drop i s) ≡ absorb f ((k + 1) % 16) (afterByte f k (addAt k y (getD s i 0))) (drop (i + 1) s)
-  unfolding absorb
-  absorb-turn k y s i h = rw (drop-cons s i 0 h, add-one i)
-
   pub length-absorb : ((x : List ℕ) → length (f x) ≡ 16) → (k : ℕ) (y s : List ℕ) → length y ≡ 16 → length (absorb f k y s) ≡ 16
   unfolding absorb
   length-absorb size k y [] h = h
@@ -145,9 +139,6 @@ module _ (f : List ℕ → List ℕ) where
   absorb-block-turn y s at size h =
       ap (absorb f 0 (f (xors y (take 16 (drop at s))))) (sym (drop-drop 16 at s))
       ∙ sym (absorb-blocks y (drop at s) size (omega (arith, length-drop at s)))
-
-  pub absorb-end : (k : ℕ) (y s : List ℕ) (i : ℕ) → length s ≤ i → absorb f k y (drop i s) ≡ y
-  absorb-end k y s i h = ap (absorb f k y) (drop-of-length-le s {i = i} h) ∙ absorb-nil k y
 
   -- the bytes that fill the block, and then from the start of one
   pub absorb-to-block : (k : ℕ) (y s : List ℕ) (n : ℕ) → k < 16 → n ≡ (16 - k) % 16 → n ≤ length s
