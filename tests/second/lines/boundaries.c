@@ -1,8 +1,8 @@
 /*
  * Lines of calls at the boundaries of document 01: each boundary length of text and of associated data, in both
- * modes and both ways; every single-bit change of a tag, and many of ciphertexts, IVs and associated data; wrong
- * lengths of every string; outputs of exact, longer and shorter room; the block cipher with keys and blocks of many
- * lengths. Inputs come from a seed, which is printed.
+ * modes and both ways, and lengths of text at which the unit goes another way; every single-bit change of a tag, and
+ * many of ciphertexts, IVs and associated data; wrong lengths of every string; outputs of exact, longer and shorter
+ * room; the block cipher with keys and blocks of many lengths. Inputs come from a seed, which is printed.
  */
 #include "calls.h"
 #include "../ciphers.h"
@@ -10,6 +10,9 @@
 static const size_t texts[] = { 0, 1, 15, 16, 17, 31, 32, 33, 47, 48, 49, 63, 64, 65, 4096, 65519, 65520, 65521, 65522,
     65523, 65524, 65525, 65526, 65527, 65528, 65529, 65530, 65531, 65532, 65533, 65534, 65535, 65536, 65537, 1048575,
     1048576, 1048577 };
+/* About 1,024 bytes, whose pads CCM keeps; 2,048, from which GHASH has other tables; and 256 blocks, where a counter's last byte comes round. */
+static const size_t ways[] = { 1007, 1008, 1009, 1023, 1024, 1025, 1039, 1040, 1041, 2031, 2032, 2033, 2047, 2048, 2049, 2063, 2064, 2065, 4063,
+    4064, 4065, 4079, 4080, 4081, 4095, 4097, 4111, 4112, 4113 };
 static const size_t datas[] = { 0, 1, 2, 13, 14, 15, 16, 17, 29, 30, 31, 32, 33, 4095, 4096, 4151, 4152, 4153 };
 
 static void call(const char *name, const struct bytes *w, int count, size_t room)
@@ -103,6 +106,8 @@ int main(int argc, char **argv)
     for (int ccm = 0; ccm < 2; ccm++) {
         for (size_t i = 0; i < COUNT(texts); i++)
             both_ways(ccm, texts[i], i % 2 ? 20 : 0);
+        for (size_t i = 0; i < COUNT(ways); i++)
+            both_ways(ccm, ways[i], i % 3 ? 56 : 0);
         for (size_t i = 0; i < COUNT(datas); i++)
             both_ways(ccm, 33, datas[i]);
         changed(ccm, 4, 0, 0, 1);
@@ -110,6 +115,8 @@ int main(int argc, char **argv)
         changed(ccm, 3, 37, 21, 2);
         changed(ccm, 1, 37, 21, 1);
         changed(ccm, 2, 37, 21, 1);
+        changed(ccm, 3, 1024, 56, 61);
+        changed(ccm, 3, 1025, 56, 61);
         changed(ccm, 3, 4099, 56, 331);
         static const size_t e[] = { 32, 12, 20, 33 }, d[] = { 32, 12, 20, 33, 16 };
         lengths(encrypts[ccm], e, 4, 60);

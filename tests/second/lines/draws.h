@@ -59,7 +59,7 @@ static inline size_t any_length(void)
 
 static inline struct lengths any_lengths(size_t most, int past)
 {
-    static const size_t longer[] = { 1023, 1024, 4095, 4096, 4097 }, longest[] = { 65519, 65535, 65536, 65537 };
+    static const size_t longer[] = { 1023, 1024, 1025, 1040, 2047, 2048, 4095, 4096, 4097 }, longest[] = { 65519, 65535, 65536, 65537 };
     struct lengths l = { any_length(), any_length() };
     if (one_in(16))
         l.data = most - below(2);

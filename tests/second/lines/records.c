@@ -17,7 +17,7 @@ static void both_ways(const struct row *r, size_t n, size_t a)
 
 static void lengths(unsigned mode)
 {
-    static const size_t texts[] = { 0, 1, 15, 16, 17, 31, 32, 33 }, longer[] = { 4096, 65535, 65536, 65537, 1048575, 1048576 };
+    static const size_t texts[] = { 0, 1, 15, 16, 17, 31, 32, 33 }, longer[] = { 1023, 1024, 1025, 2047, 2048, 4096, 65535, 65536, 65537, 1048575, 1048576 };
     static const size_t datas[] = { 0, 1, 15, 16, 17, 4095, 4096, 4097 }, names[] = { 0, 1, 31, 33, 34, 255, 256, 65536 };
     for (int k = 0; k < 4; k++)
         for (size_t i = 0; i < COUNT(texts); i++)
