@@ -27,7 +27,7 @@ shifted s c r = getD (column s ((c + r) % 4)) r 0
 abbrev pub mixedBy : Tables → ℕ → ℕ → ℕ → ℕ → Column
 mixedBy t a b c d = addColumn (addColumn (addColumn (tableEntry t 0 a) (tableEntry t 1 b)) (tableEntry t 2 c)) (tableEntry t 3 d)
 
--- and of each, in its own row, what a table has there that adds it once
+-- and of each, in its own row, what a table has there that adds it once: for row 0 table 2, for row 1 table 3, for row 2 table 0, for row 3 table 1
 abbrev pub substitutedBy : Tables → ℕ → ℕ → ℕ → ℕ → Column
 substitutedBy t a b c d = getD (tableEntry t 2 a) 0 0 ∷ getD (tableEntry t 3 b) 1 0 ∷ getD (tableEntry t 0 c) 2 0 ∷ getD (tableEntry t 1 d) 3 0 ∷ []
 
