@@ -85,8 +85,8 @@ module _ (f : List ℕ → List ℕ) where
   length-chain size y (b ∷ bs) h = length-chain size (f (xors y b)) bs (size (xors y b))
 
   pub bytes-chain : ((x : List ℕ) → Bytes (f x)) → {y : List ℕ} (bs : List (List ℕ)) → Bytes y → Bytes (chain f y bs)
-  bytes-chain bytes [] h = h
-  bytes-chain bytes {y} (b ∷ bs) h = bytes-chain bytes bs (bytes (xors y b))
+  bytes-chain bytes {y} [] h = h
+  bytes-chain bytes {y} (b ∷ bs) h = bytes-chain bytes {y = f (xors y b)} bs (bytes (xors y b))
 
   -- two functions with the same values
   pub chain_same : (g : List ℕ → List ℕ) → ((x : List ℕ) → f x ≡ g x) → (y : List ℕ) (bs : List (List ℕ)) → chain f y bs ≡ chain g y bs

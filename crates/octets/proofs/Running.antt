@@ -189,7 +189,7 @@ module _ (f : List ℕ → List ℕ) where
   unfolding absorb
   bytes-absorb bytes k {y} {s = []} hy hs = hy
   bytes-absorb bytes k {y} {s = b ∷ s} hy hs =
-      bytes-absorb bytes ((k + 1) % 16) (after (eqb k 15) (bytes-set k hy (xor_byte (hy.byte k) (bytes_head hs)))) (bytes_tail hs)
+      bytes-absorb bytes ((k + 1) % 16) {y = after_byte f k (add_at k y b)} {s = s} (after (eqb k 15) (bytes-set k hy (xor_byte (hy.byte k) (bytes_head hs)))) (bytes_tail hs)
     where
       after : (t : Bool) {x : List ℕ} → Bytes x → Bytes (when t (f x) x)
       after true {x} h = bytes x
