@@ -1,4 +1,6 @@
 // The IV session of document 01: by value first, then `issue`, which changes a session where the caller holds it. specs/Iv.antt has the IVs, specs/Calls.antt the numbers.
+#![tactic(auto)]
+
 ghost use Rattle.std.specs.Prelude.{◌≡◌, ◌++◌};
 ghost use Rattle.octets.specs.BigEndian.{be};
 ghost use Rattle.session.specs.Iv.{prefix_size, field_size, with_fields, started, next_session};
@@ -15,7 +17,7 @@ const LAST_FIELD: u64 = 0xffffffffffffffff;
 
 // The fixed field, the next invocation field, and whether the last IV has been given: any value of `spent` but 0 says so.
 #[repr(C)]
-#[derive(Drop)]
+#[derive(Clone, Copy)]
 pub struct Session {
     pub prefix: [u8; PREFIX_SIZE],
     pub next: u64,
