@@ -48,7 +48,7 @@ module _ {M : Type 1} (𝓤 : Ura M) where
   -- what is said of a last value. Of a parameter that has none nothing is said
   abbrev last_on : {D : Type 0} (e : Exit D) (x : D) → Last e x → List (Item 𝓤) → List (Item 𝓤)
   last_on unchanged x w Γ = Γ
-  last_on (leaves L l S s) x w Γ = ‵ (l x w) ∷ Γ
+  last_on (leaves L l S s r₀) x w Γ = ‵ (l x w) ∷ Γ
 
   abbrev pub lasts_on : {n : ℕ} (κs : Lfts n) (ss : List (Slot n)) (ks : Kepts ss) (a : Denots (types_at ss κs)) → Fins κs ss ks a → List (Item 𝓤) → List (Item 𝓤)
   lasts_on κs [] ks a ws Γ = Γ
@@ -91,7 +91,7 @@ module _ {M : Type 1} (𝓤 : Ura M) where
 
     last_in : {D : Type 0} (e : Exit D) (x : D) (w : Last e x) (Γ : List (Item 𝓤)) → ent 𝓤 (sep 𝓤 (sem 𝓛 (left e x w)) (⋆ 𝓛 Γ)) (⋆ 𝓛 (last_on e x w Γ))
     last_in unchanged x w Γ = snd∗ 𝓤 (emp 𝓤) (⋆ 𝓛 Γ)
-    last_in (leaves L l S s) x w Γ = push 𝓛 (‵ (l x w)) Γ
+    last_in (leaves L l S s r₀) x w Γ = push 𝓛 (‵ (l x w)) Γ
 
     pub lasts_in : {n : ℕ} (κs : Lfts n) (ss : List (Slot n)) (ks : Kepts ss) (a : Denots (types_at ss κs)) (ws : Fins κs ss ks a) (Γ : List (Item 𝓤))
         → ent 𝓤 (sep 𝓤 (sem 𝓛 (lasts_of κs ss ks a ws)) (⋆ 𝓛 Γ)) (⋆ 𝓛 (lasts_on κs ss ks a ws Γ))

@@ -2,19 +2,20 @@
 --     opened x         a `&mut` is opened: [the struct's cell; what the struct owns; the open borrow; two entries of the ghost name], with the struct's relation
 --     closed x h       it is closed at another value h, and is owned at that value
 --     counted, plainly     what a number, or a struct of numbers, owns is had for nothing
---     learnt           of a `&mut [T]` that a callee was given: its last list is as long as the list passed
+--     learnt           of a `&mut [T]` that a callee was given: its last list is as long as the list passed. What is left is what `slice_passed_on` has at exit: that the list is the last, and the borrow
+--     learnt_alone     the same where the borrow stands elsewhere
 -- Assumes `Logic`.
 use mathlib.Core.Path.{◌≡◌, refl}
 use mathlib.Core.List.{List, [], ◌∷◌}
 use seplogic.Ra.Ura.{Ura}
-use seplogic.Ra.TreeShare.{full_share}
+use base.Fraction.{full_share}
 use Prim.Native.Nat.{ℕ}
 use mir.Syntax.{Width, erased}
 use mir.Val.{Val, vint}
 use base.Stored.{Gv}
 use base.Fml.{Fml, Lft, Share, feq, fsep, flft, fobs, fauth, fobor}
 use types.Logic.{Logic}
-use types.Kit.{Item, ‵, Goal, Soaks, Seq, Step, step, ◌$◌, move, drop, fsplit, fsplit3, fjoin3, feq_l, feq_i}
+use types.Kit.{Item, ‵, Goal, Soaks, Seq, Step, step, ◌$◌, move, drop, fsplit, fsplit3, fjoin, fjoin3, feq_l, feq_i}
 use types.SemTy.{Body}
 use denote.RattleType.{RattleType}
 use denote.Laws.{Is, Typed, shows}
@@ -53,5 +54,8 @@ module _ {M : Type 1} {𝓤 : Ura M} {𝓛 : Logic 𝓤} {K : Type 0} {Γ : List
   pub plainly : K → (D : Declared) (L : LL.Laws D) → Plains (fields D) → (x : D.D) → Is (row D) x (LL.vals D L x) → Step K 𝓛 (‵ ((row D).own_val x (LL.vals D L x)) ∷ Γ) G Γ G
   plainly t D L plain x is = owned t (row D) (Is (row D)) (LL.makes D plain 𝓛) x (LL.vals D L x) is
 
-  pub learnt : K → {P : Fml} {X : Type 0} {m n : X} → (m ≡ n → Seq K 𝓛 (‵ P ∷ Γ) G) → Seq K 𝓛 (‵ (fsep P (feq X m n)) ∷ Γ) G
-  learnt t k = fsplit t $ move t (1 ∷ []) $ feq_l t k
+  pub learnt_alone : K → {P : Fml} {X : Type 0} {m n : X} → (m ≡ n → Seq K 𝓛 (‵ P ∷ Γ) G) → Seq K 𝓛 (‵ (fsep P (feq X m n)) ∷ Γ) G
+  learnt_alone t k = fsplit t $ move t (1 ∷ []) $ feq_l t k
+
+  pub learnt : K → {P B : Fml} {X : Type 0} {m n : X} → (m ≡ n → Seq K 𝓛 (‵ (fsep P B) ∷ Γ) G) → Seq K 𝓛 (‵ (fsep (fsep P (feq X m n)) B) ∷ Γ) G
+  learnt t k = fsplit t $ fsplit t $ move t (1 ∷ []) $ feq_l t (λ e. fjoin t $ k e)

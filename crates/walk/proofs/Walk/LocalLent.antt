@@ -3,23 +3,23 @@
 --     address          the right side `&mut _k`
 --     lends k          `_k` and what its value owns are lent within a lifetime κ: [the loan's token; κ's token; what the borrow owns; what the lender keeps]. In the place of `_k` stands nothing
 --     has_back k       the loan is over: [κ's token; what the last value owns], and `_k` holds the last value
+--     has_back_alone   the same without the borrow, which the callee hands back closed
 --     field_out        what a field owns, out of what its struct owns
--- `lends` takes κ's token and what the value owns; `has_back` takes the loan's token, κ's, what is said of the last value, and what the lender keeps. Assumes `Logic`.
+-- `lends` takes κ's token and what the value owns; `has_back` takes the loan's token, κ's, what the callee says of the last value (that it is the last, and the borrow, closed), and what the lender keeps. Assumes `Logic`.
 use mathlib.Core.Path.{◌≡◌, sym, subst}
 use mathlib.Core.List.{List, [], ◌∷◌}
 use Prim.Native.Nat.{ℕ, zero, suc}
 use seplogic.Ra.Ura.{Ura}
-use seplogic.Ra.TreeShare.PosShare
-use seplogic.Ra.TreeShare.{full_share}
+use base.Fraction.{full_share, left, right}
 use mir.Syntax.{Ty, Body as Code, place, addr_of, erased}
 use mir.Raw.{raw as raw_ty}
 use mir.Val.{Val, vptr, vstruct}
 use base.Logic.{SProp, ent, sep, emp, id⊢, via, mono_r, snd∗, emp∗}
-use base.Fml.{GName, Lft, Share, Fml, ftrue, fsep, fat, flft, fdead, fres, flent}
+use base.Fml.{GName, Lft, Share, Fml, ftrue, fsep, fat, flft, fdead, fres, fbor, flent}
 use prog.Wp.{Env, Calls, Loops, spot_of}
 use types.Logic.{Logic, sem}
 use borrow.Within.Token.{Rest, within_token, within_end}
-use types.Kit.{Item, ‵, raw, some, given, later, ◌⊛◌, ⋆, mean, nth, del, put, pull, fill, push, pop, Goal, Post, runs, Seq, Step, step, ◌$◌, ◌∵◌, !, qed, by, move, keep, use1, use2, use3}
+use types.Kit.{Item, ‵, raw, some, given, later, ◌⊛◌, ⋆, mean, nth, del, put, pull, fill, push, pop, Goal, Post, runs, Seq, Step, step, ◌$◌, ◌∵◌, !, qed, by, move, keep, drop, use1, use2, use3}
 use types.Kit.{split, join, pick, learn, fsplit, fjoin, fpick, fpack, frame, await, done}
 use types.Run.{Rv, addr, from, stop}
 use types.SemTy.{Body}
@@ -96,9 +96,9 @@ module _ {M : Type 1} {𝓤 : Ura M} (𝓛 : Logic 𝓤) {R : RattleType} (N : K
       (subst (λ (ρs : List Ty). ent 𝓤 (sem 𝓛 (cell_raw full_share ρs (v ∷ []) l zero)) (sem 𝓛 cell)) (sym fits) (𝓛.laws.raw_at full_share τ l zero v)) $ frame ! $ done !)
 
 module _ {M : Type 1} {𝓤 : Ura M} {𝓛 : Logic 𝓤} {K : Type 0} {Γ : List (Item 𝓤)} where
-  -- the entry n is taken out, and nothing stands in its place; and an entry is put there
   open 𝓛 use {H}
 
+  -- the entry n is taken out, and nothing stands in its place; and an entry is put there
   takes : K → (n : ℕ) {i : Item 𝓤} {G : Goal 𝓤 H} → nth 𝓛 n Γ ≡ i → Step K 𝓛 (i ∷ put 𝓛 n (‵ ftrue) Γ) G Γ G
   takes t n {i} e =
       let P : SProp 𝓤 = ⋆ 𝓛 (del 𝓛 n Γ) in
@@ -122,30 +122,30 @@ module _ {M : Type 1} {𝓤 : Ura M} {𝓛 : Logic 𝓤} {K : Type 0} {Γ : List
 
   pub lends : K → (k : ℕ) (N : Known R) (h : R.Denot) {κ : Lft} {q : Share} → raw_all R.mir ≡ raw_ty (spot_of 𝓤 H E k).0 ∷ [] → Holds 𝓛 Γ E k full_share (N.val h)
       → (let l : ℕ = (spot_of 𝓤 H E k).1 in (ν : ℕ) (δ : GName)
-      → Seq K 𝓛 (‵ (flft (ν ∷ κ) (PosShare.left q)) ∷ ‵ (flft κ (PosShare.right q)) ∷ ‵ ((MutRef erased (ν ∷ κ) R).own_val (borrowed l δ h) (vptr l zero ∷ [])) ∷ kept 𝓛 R l ν κ (PosShare.left q) δ
+      → Seq K 𝓛 (‵ (flft (ν ∷ κ) (left q)) ∷ ‵ (flft κ (right q)) ∷ ‵ ((MutRef erased (ν ∷ κ) R).own_val (borrowed l δ h) (vptr l zero ∷ [])) ∷ kept 𝓛 R l ν κ (left q) δ
       ∷ put 𝓛 (at 𝓛 Γ k) (‵ ftrue) Γ) (runs C Λ E rest p))
       → Seq K 𝓛 (‵ (flft κ q) ∷ ‵ (R.own_val h (N.val h ∷ [])) ∷ Γ) (runs C Λ E rest p)
   lends t k N h {κ} {q} fits e go =
       let l : ℕ = (spot_of 𝓤 H E k).1 in
-      let q₀ : Share = PosShare.left q in
+      let q₀ : Share = left q in
       takes t (suc (suc (at 𝓛 Γ k))) e $
       move t (0 ∷ 2 ∷ []) $ use2 𝓛 (‵ ((mem R).own_at h l zero)) (lies_in 𝓛 N (spot_of 𝓤 H E k).0 fits h l) $
       -- [what is to be lent; κ's token; ..]
-      move t (1 ∷ []) $ use1 𝓛 (‵ (flft κ q₀) ⊛ ‵ (flft κ (PosShare.right q))) (𝓛.lfts.lft_split κ q) $ split t $
+      move t (1 ∷ []) $ use1 𝓛 (‵ (flft κ q₀) ⊛ ‵ (flft κ (right q))) (𝓛.lfts.lft_split κ q) $ split t $
       lft_new t tt (λ ν. move t (0 ∷ 1 ∷ []) $ use2 𝓛 (‵ (flft (ν ∷ κ) q₀) ⊛ raw (Rest 𝓛 ν q₀)) (within_token 𝓛 ν κ q₀) $ split t $
       -- [the loan's token; what is left of ν's; κ's token; what is to be lent; ..]
       move t (3 ∷ []) $ use1 𝓛 (later (some (λ (δ : GName). ‵ ((MutRef erased (ν ∷ κ) R).own_val (borrowed l δ h) (vptr l zero ∷ [])) ⊛ ‵ (flent (ν ∷ κ) (Body (mem R) l zero δ)))))
       (lends_ref 𝓛 R erased (ν ∷ κ) h l zero) $ await t tt $ pick t (λ δ. split t $
       move t (3 ∷ 1 ∷ []) $ join t $ move t (2 ∷ 3 ∷ 1 ∷ 0 ∷ []) $ go ν δ))
 
-  pub has_back : K → (k : ℕ) (N : Known R) (h : R.Denot) (q : Share) {ν : ℕ} {κ : Lft} {δ : GName} → raw_all R.mir ≡ raw_ty (spot_of 𝓤 H E k).0 ∷ []
+  pub has_back_alone : K → (k : ℕ) (N : Known R) (h : R.Denot) (q : Share) {ν : ℕ} {κ : Lft} {δ : GName} → raw_all R.mir ≡ raw_ty (spot_of 𝓤 H E k).0 ∷ []
       → (Is R h (N.val h ∷ []) → Typed R.mir (N.val h ∷ [])
       → Seq K 𝓛 (‵ (flft κ q) ∷ ‵ (R.own_val h (N.val h ∷ [])) ∷ put 𝓛 (at 𝓛 Γ k) (‵ (fat full_share (spot_of 𝓤 H E k).0 (spot_of 𝓤 H E k).1 zero (N.val h))) Γ) (runs C Λ E rest p))
-      → Seq K 𝓛 (‵ (flft (ν ∷ κ) (PosShare.left q)) ∷ ‵ (flft κ (PosShare.right q)) ∷ ‵ (fres δ (R.coded.code h)) ∷ kept 𝓛 R (spot_of 𝓤 H E k).1 ν κ (PosShare.left q) δ ∷ Γ)
+      → Seq K 𝓛 (‵ (flft (ν ∷ κ) (left q)) ∷ ‵ (flft κ (right q)) ∷ ‵ (fres δ (R.coded.code h)) ∷ kept 𝓛 R (spot_of 𝓤 H E k).1 ν κ (left q) δ ∷ Γ)
       (runs C Λ E rest p)
-  has_back t k N h q {ν} {κ} {δ} fits go =
+  has_back_alone t k N h q {ν} {κ} {δ} fits go =
       let l : ℕ = (spot_of 𝓤 H E k).1 in
-      let q₀ : Share = PosShare.left q in
+      let q₀ : Share = left q in
       let c : Fml = fat full_share (spot_of 𝓤 H E k).0 l zero (N.val h) in
       move t (3 ∷ []) $ split t $ move t (2 ∷ 0 ∷ []) $ use2 𝓛 (later (‵ (fdead (ν ∷ κ)) ⊛ ‵ (flft κ q₀))) (within_end 𝓛 ν κ q₀) $ await t tt $ split t $
       -- [the loan is over; a half of κ's token; the lender's part; the other half; the last value; ..]
@@ -154,3 +154,11 @@ module _ {M : Type 1} {𝓤 : Ura M} {𝓛 : Logic 𝓤} {K : Type 0} {Γ : List
       move t (2 ∷ 3 ∷ []) $ use2 𝓛 (‵ (flft κ q)) (𝓛.lfts.lft_join κ q) $
       move t (2 ∷ []) $ peeks t R (Is R) (shows 𝓛 R) h (N.val h ∷ []) (λ is.
       move t (2 ∷ 1 ∷ 0 ∷ []) $ puts t (suc (suc (at 𝓛 Γ k))) $ go is ((N.lawful 𝓛).typed h (N.val h ∷ []) is))
+
+  -- with what the callee says of the last value: that it is the last, and the borrow, closed
+  pub has_back : K → (k : ℕ) (N : Known R) (h : R.Denot) (q : Share) {ν : ℕ} {κ : Lft} {δ : GName} → raw_all R.mir ≡ raw_ty (spot_of 𝓤 H E k).0 ∷ []
+      → (Is R h (N.val h ∷ []) → Typed R.mir (N.val h ∷ [])
+      → Seq K 𝓛 (‵ (flft κ q) ∷ ‵ (R.own_val h (N.val h ∷ [])) ∷ put 𝓛 (at 𝓛 Γ k) (‵ (fat full_share (spot_of 𝓤 H E k).0 (spot_of 𝓤 H E k).1 zero (N.val h))) Γ) (runs C Λ E rest p))
+      → Seq K 𝓛 (‵ (flft (ν ∷ κ) (left q)) ∷ ‵ (flft κ (right q)) ∷ ‵ (fsep (fres δ (R.coded.code h)) (fbor (ν ∷ κ) (Body (mem R) (spot_of 𝓤 H E k).1 zero δ))) ∷ kept 𝓛 R (spot_of 𝓤 H E k).1 ν κ (left q) δ ∷ Γ)
+      (runs C Λ E rest p)
+  has_back t k N h q fits go = move t (2 ∷ []) $ fsplit t $ move t (1 ∷ []) $ drop t $ move t (1 ∷ 2 ∷ 0 ∷ []) $ has_back_alone t k N h q fits go

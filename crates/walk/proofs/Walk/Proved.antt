@@ -1,12 +1,12 @@
 -- A walk proves a contract.
---     scene            the machine's tables, where code's calls mean γ
+--     scene            the machine's tables, where code's calls mean γ. Its clauses read a routine's run as the kit's statements do, by `returns`
 --     known            a callee's theorem, as a walk asks for it
 --     proved           a walk over that scene is the function's theorem
 -- For every `Model`, `Logic` and `Running`. Assumes nothing.
 use mathlib.Core.Path.{◌≡◌}
 use mathlib.Core.List.{List}
 use seplogic.Ra.Ura.{Ura}
-use mir.Syntax.{Name, Fn}
+use mir.Syntax.{Callee, Fn}
 use base.Logic.{via, fst∗}
 use prog.Model.{Model}
 use prog.Routine.{Routine, Env}
@@ -34,18 +34,16 @@ module _ {M : Type 1} {𝓤 : Ura M} (𝓛 : Logic 𝓤) (𝓜 : Model 𝓤 𝓛
 
   abbrev pub scene : Scene 𝓛
   scene = record {
-    A = 𝓛.A;
-    W = 𝓛;
     mem = 𝓜.mem;
-    run = 𝓡.run;
+    run = 𝓡.returns;
     C = (tables 𝓤 H 𝓜 𝓡 γ).C;
     Λ = (tables 𝓤 H 𝓜 𝓡 γ).Λ;
     fm = framed;
   }
 
-  module _ (T : Ended) (says : Says 𝓤 T) (k : Name) where
+  module _ (T : Ended) (says : Says 𝓤 T) (k : Callee) where
     abbrev c : Clauses 𝓤 T
-    c = says 𝓛 𝓜.mem 𝓡.run
+    c = says 𝓛 𝓜.mem 𝓡.returns
 
     pub known : (r : Routine) → γ k ≡ r → Triple 𝓤 (𝓡.run r) (promise 𝓛 T c) → Meeting scene T says k
     known r e met = cited 𝓤 H (promise 𝓛 T c) 𝓜 𝓡 γ k r e met
@@ -56,6 +54,6 @@ module _ {M : Type 1} {𝓤 : Ura M} (𝓛 : Logic 𝓤) (𝓜 : Model 𝓤 𝓛
         let ss : List (Slot T.signature.lifetimes) = T.signature.params in
         let run : Fun 𝓤 = WpFn 𝓤 H scene.C scene.Λ f in
         entered 𝓤 H (promise 𝓛 T c) scene.C scene.Λ k f closed
-        (walk_Meets 𝓛 T (stays ss T.kept ps) scene.W (all_go scene.W ss T.kept ps) c run (WpFn-mono 𝓤 H scene.W.laws (tables_of 𝓤 H 𝓜 (tables 𝓤 H 𝓜 𝓡 γ)) f)
+        (walk_Meets 𝓛 T (stays ss T.kept ps) (all_go 𝓛 ss T.kept ps) c run (WpFn-mono 𝓤 H 𝓛.laws (tables_of 𝓤 H 𝓜 (tables 𝓤 H 𝓜 𝓡 γ)) f)
         (walked 𝓛 T (stays ss T.kept ps) c run (spell ss T.kept ps) (all_tell ss T.kept ps) (λ κs qs bounds a g are.
         via 𝓤 (on_entry 𝓛 T.signature κs qs a (values scene T ps says κs a)) (fst∗ 𝓤 _ ((c κs a).requires g)) (walk κs qs bounds a g are))))

@@ -4,7 +4,6 @@
 --     lets k           `_k = ..` of a right side.        gets k       `_k = ..` of what a call returned
 --     stores k p, stores-field k p j       `*_k = ..` and `(*_k).j = ..`
 --     again k          the right side `&*_k`, by which a reference is passed on
---     relends s i j    a lent slice is lent on: `_i = &*_s.0` and `_j = (_i, _s.1)`
 --     args1 .. args6   a list of operands
 -- Assumes `Logic`.
 use mathlib.Core.Path.{◌≡◌, sym, ap, subst}
@@ -12,32 +11,32 @@ use mathlib.Core.Option.{Option, some}
 use mathlib.Core.List.{List, [], ◌∷◌}
 use Prim.Native.Nat.{ℕ, zero, ◌+◌}
 use seplogic.Ra.Ura.{Ura}
-use seplogic.Ra.TreeShare.{full_share}
+use base.Fraction.{full_share}
 use lib.Dec.{T}
-use mir.Syntax.{Sym, Ty, ty_struct, Tys, Body, place, field as dot, deref, Opd as Operand, copy, addr_of, aggregate, Rv as RValue, assign, seq}
+use mir.Syntax.{Sym, Ty, ty_struct, Tys, Body, place, field as dot, deref, Opd as Operand, copy, addr_of, Rv as RValue, assign, seq}
 use mir.Raw.{raw as raw_ty}
-use mir.Val.{Val, Vals, vnil, vcons, vptr, vstruct, WT, has_ty}
+use mir.Val.{Val, Vals, vptr, vstruct, WT, has_ty}
 use mir.Fields.{get_v, set_v}
 use base.Fml.{Share, fat, froom}
 use prog.Memory.{field_at, field_of}
 use prog.Wp.{Env, Calls, Loops, spot_of}
 use types.Logic.{Logic}
-use types.Kit.{Item, ‵, nth, put, Post, runs, lands, Step, step, ◌$◌}
+use types.Kit.{Item, ‵, nth, put, Post, runs, lands, Step}
 use types.Run.{look, look_raw, init, store_raw, stop, hop, from, fld, load, addr, and_then, no_more, assigns, land, Opd, Opds, Rv}
-use types.Part.{Part, agg, whole, sub, look_in, store_in}
+use types.Part.{Part, whole, sub, look_in, store_in}
 use Rattle.walk.proofs.Walk.Locals.{at}
 
 -- field j of the struct's cell at the entry p
-within : {M : Type 1} {𝓤 : Ura M} {𝓛 : Logic 𝓤} {K : Type 0} (Γ : List (Item 𝓤)) → K → (p j : ℕ) {q : Share} {ν : Sym} {τs : Tys} {b o : ℕ} {vs : Vals} {τ : Ty} {d : ℕ}
+pub within : {M : Type 1} {𝓤 : Ura M} {𝓛 : Logic 𝓤} {K : Type 0} (Γ : List (Item 𝓤)) → K → (p j : ℕ) {q : Share} {ν : Sym} {τs : Tys} {b o : ℕ} {vs : Vals} {τ : Ty} {d : ℕ}
     → nth 𝓛 p Γ ≡ ‵ (fat q (ty_struct ν τs) b o (vstruct vs)) → field_at zero τs j ≡ some (τ, d)
     → Part K 𝓛 (nth 𝓛 p Γ) q τ b (o + d) (get_v vs j) (λ u. ‵ (fat q (ty_struct ν τs) b o (vstruct (set_v vs j u))))
 within {𝓤 = 𝓤} {𝓛 = 𝓛} {K = K} Γ t p j {q} {ν} {τs} {b} {o} {vs} {τ} {d} e f =
     subst (λ (i : Item 𝓤). Part K 𝓛 i q τ b (o + d) (get_v vs j) (λ u. ‵ (fat q (ty_struct ν τs) b o (vstruct (set_v vs j u))))) (sym e) (sub t j f (whole t))
 
 module _ {M : Type 1} {𝓤 : Ura M} (𝓛 : Logic 𝓤) (Γ : List (Item 𝓤)) (E : Env 𝓤 𝓛.H) (k : ℕ) where
-  -- the cell of `_k`, with a value in it
   open 𝓛 use {H}
 
+  -- the cell of `_k`, with a value in it
   abbrev pub Holds : Share → Val → Type 2
   Holds q v = nth 𝓛 (at 𝓛 Γ k) Γ ≡ ‵ (fat q (spot_of 𝓤 H E k).0 (spot_of 𝓤 H E k).1 zero v)
 
@@ -67,9 +66,9 @@ module _ {M : Type 1} {𝓤 : Ura M} (𝓛 : Logic 𝓤) (Γ : List (Item 𝓤))
   setting v = put 𝓛 (at 𝓛 Γ k) (‵ (fat full_share (spot_of 𝓤 H E k).0 (spot_of 𝓤 H E k).1 zero v)) Γ
 
 module _ {M : Type 1} {𝓤 : Ura M} {𝓛 : Logic 𝓤} {K : Type 0} {Γ : List (Item 𝓤)} {E : Env 𝓤 𝓛.H} where
-  -- ---- operands
   open 𝓛 use {H}
 
+  -- ---- operands
   pub var : K → (k : ℕ) {q : Share} {v : Val} → Holds 𝓛 Γ E k q v → Opd K 𝓛 Γ E (copy (place k [])) v
   var t k e = load t (from t (stop t)) (look t (at 𝓛 Γ k) e)
 
@@ -88,11 +87,6 @@ module _ {M : Type 1} {𝓤 : Ura M} {𝓛 : Logic 𝓤} {K : Type 0} {Γ : List
   pub again : K → (k : ℕ) {q : Share} {τ : Ty} {b o : ℕ} → Holds 𝓛 Γ E k q (vptr b o) → Rv K 𝓛 Γ E (addr_of (place k (deref τ ∷ []))) (vptr b o)
   again t k e = addr t (from t (hop t (look t (at 𝓛 Γ k) e) (stop t)))
 
-  -- `&*_k.0` of a lent slice `_k`
-  start : K → (k : ℕ) {q : Share} {ν : Sym} {τs : Tys} {us : Vals} {τ σ : Ty} {d b o : ℕ} → Fields 𝓛 Γ E k q ν τs (vcons (vptr b o) us) 0 σ d
-      → Rv K 𝓛 Γ E (addr_of (place k (dot 0 ∷ deref τ ∷ []))) (vptr b o)
-  start t k e = addr t (from t (fld t (ap (λ x. x.1.1) e) (hop t (look_in t (at 𝓛 Γ k) (within Γ t (at 𝓛 Γ k) 0 (ap (λ x. x.0) e) (ap (λ x. x.1.0) e))) (stop t))))
-
   -- ---- lists of operands
   pub args1 : K → {x : Operand} {v : Val} → Opd K 𝓛 Γ E x v → Opds K 𝓛 Γ E (x ∷ []) (v ∷ [])
   args1 t a = and_then t a (no_more t)
@@ -101,7 +95,7 @@ module _ {M : Type 1} {𝓤 : Ura M} {𝓛 : Logic 𝓤} {K : Type 0} {Γ : List
   args2 t a b = and_then t a (args1 t b)
 
   pub args3 : K → {x x₁ x₂ : Operand} {v v₁ v₂ : Val} → Opd K 𝓛 Γ E x v → Opd K 𝓛 Γ E x₁ v₁ → Opd K 𝓛 Γ E x₂ v₂ → Opds K 𝓛 Γ E (x ∷ x₁ ∷ x₂ ∷ []) (v ∷ v₁ ∷ v₂ ∷ [])
-  args3 t a b c = and_then t a (args2 t b c)
+  args3 t a b c = and_then t a (and_then t b (args1 t c))
 
   pub args6 : K → {x x₁ x₂ x₃ x₄ x₅ : Operand} {v v₁ v₂ v₃ v₄ v₅ : Val} → Opd K 𝓛 Γ E x v → Opd K 𝓛 Γ E x₁ v₁ → Opd K 𝓛 Γ E x₂ v₂ → Opd K 𝓛 Γ E x₃ v₃ → Opd K 𝓛 Γ E x₄ v₄ → Opd K 𝓛 Γ E x₅ v₅
       → Opds K 𝓛 Γ E (x ∷ x₁ ∷ x₂ ∷ x₃ ∷ x₄ ∷ x₅ ∷ []) (v ∷ v₁ ∷ v₂ ∷ v₃ ∷ v₄ ∷ v₅ ∷ [])
@@ -126,22 +120,3 @@ module _ {M : Type 1} {𝓤 : Ura M} {𝓛 : Logic 𝓤} {K : Type 0} {Γ : List
     stores-field t k p j r e wt =
         assigns t r (from t (hop t (look t (at 𝓛 Γ k) (ap (λ x. x.0) e)) (fld t (ap (λ x. x.1.1.1) e) (stop t))))
         (store_in t p (within Γ t p j (ap (λ x. x.1.0) e) (ap (λ x. x.1.1.0) e)) wt)
-
--- ---- a lent slice is lent on
-module _ {M : Type 1} {𝓤 : Ura M} (𝓛 : Logic 𝓤) (Γ : List (Item 𝓤)) (E : Env 𝓤 𝓛.H) (s i j : ℕ) where
-  -- `_s` holds the slice; `_i` is room for its pointer, and `_j` for the slice
-  abbrev pub Relent : Share → Share → Share → Sym → Tys → Vals → ℕ → ℕ → Ty → Ty → ℕ → ℕ → Type 2
-  Relent q q₁ q₂ ν τs us b o σ₀ σ₁ d₀ d₁ =
-      Fields 𝓛 Γ E s q ν τs (vcons (vptr b o) us) 0 σ₀ d₀ × (Empty 𝓛 Γ E i
-      × (Holds 𝓛 (setting 𝓛 Γ E i (vptr b o)) E i q₁ (vptr b o) × (Fields 𝓛 (setting 𝓛 Γ E i (vptr b o)) E s q₂ ν τs (vcons (vptr b o) us) 1 σ₁ d₁
-      × Empty 𝓛 (setting 𝓛 Γ E i (vptr b o)) E j)))
-
-module _ {M : Type 1} {𝓤 : Ura M} {𝓛 : Logic 𝓤} {K : Type 0} {Γ : List (Item 𝓤)} {E : Env 𝓤 𝓛.H} {C : Calls 𝓤 𝓛.H} {Λ : Loops 𝓤 𝓛.H} {rest : Body} {p : Post 𝓤 𝓛.H} where
-  open 𝓛 use {H}
-
-  pub relends : K → (s i j : ℕ) {q q₁ q₂ : Share} {ν : Sym} {τs : Tys} {us : Vals} {b o : ℕ} {τ σ₀ σ₁ : Ty} {d₀ d₁ : ℕ}
-      → Relent 𝓛 Γ E s i j q q₁ q₂ ν τs us b o σ₀ σ₁ d₀ d₁
-      → T (has_ty (spot_of 𝓤 H E i).0 (vptr b o)) → (let v : Val = vstruct (vcons (vptr b o) (vcons (get_v us 0) vnil)) in T (has_ty (spot_of 𝓤 H E j).0 v) × WT v)
-      → Step K 𝓛 (setting 𝓛 (setting 𝓛 Γ E i (vptr b o)) E j (vstruct (vcons (vptr b o) (vcons (get_v us 0) vnil)))) (runs C Λ E rest p)
-      Γ (runs C Λ E (seq (assign (place i []) (addr_of (place s (dot 0 ∷ deref τ ∷ [])))) (seq (assign (place j []) (aggregate (copy (place i []) ∷ copy (place s (dot 1 ∷ [])) ∷ []))) rest)) p)
-  relends t s i j e wi wj = step (λ k. lets t i (start t s e.0) e.1.0 (wi, tt) $ lets t j (agg t (args2 t (var t i e.1.1.0) (field t s 1 e.1.1.1.0))) e.1.1.1.1 wj $ k)
