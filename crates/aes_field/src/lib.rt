@@ -1,4 +1,6 @@
 // Bytes as elements of GF(2^8), the S-box as a constant table, and its inverse worked out (FIPS 197, sections 4, 5.1.1 and 5.3.2).
+#![tactic(auto)]
+
 pub mod inv_sbox;
 mod sbox;
 
@@ -12,6 +14,7 @@ use sbox::SBOX;
 pub type ByteTable = [u8; 256];
 
 // Times x in the field.
+#[tactic(auto, unfolding(crate::specs::Field::xtime))]
 pub fn double(a: u8) -> u8
     ensures { result ≡ xtime a }
 {
