@@ -1,7 +1,7 @@
 -- The laws of specs/Laws.antt. Each step is followed on the byte in row r of column c.
 -- Assumes nothing.
 use mathlib.Core.Path.{refl, sym, ap, ◌∙◌, subst⁻¹}
-use Prim.Native.Nat.{ℕ, ◌+◌, ◌-◌, ◌*◌, ◌/◌, ◌%◌}
+use Prim.Native.Nat.{◌+◌, ◌-◌, ◌*◌, ◌/◌, ◌%◌}
 use lib.Bits.{bit_xor}
 use lib.ListN.{get_or}
 use Rattle.octets.specs.Bytes.{Bytes}

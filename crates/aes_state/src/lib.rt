@@ -1,4 +1,6 @@
 // The state of FIPS 197, four columns of four bytes by value, and the steps on it that need no S-box.
+#![tactic(auto)]
+
 ghost use Rattle.std.specs.Prelude.{◌≡◌, [], ◌∷◌, ◌+◌, ◌≤◌, get_or};
 ghost use Rattle.aes_field.specs.Field.{times};
 ghost use Rattle.aes_state.specs.State.{state_from, bytes_of};
