@@ -3,12 +3,8 @@
 use mathlib.Core.Path.{◌≡◌, refl, sym, ap, ◌∙◌}
 use mathlib.Core.Bool.{true, false}
 use mathlib.Core.List.{List, [], ◌∷◌}
-use mathlib.Core.Logic.{⊎_elim}
 use Prim.Native.Nat.{ℕ}
-use native.Mathlib.Omega.{arith}
 use lib.Dec.{eqb}
-use types.Run.{OneOf}
-use denote.Enum.Declared.{tag_of, declared}
 use Rattle.octets.specs.Lent.{when}
 use Rattle.keytable.specs.Row.{Row}
 use Rattle.keytable.specs.Table.{absent}
@@ -35,10 +31,10 @@ says_same f g e = sym (found_in_says f) ∙ ap found_in e ∙ found_in_says g
 
 -- the branch of `let .. else` is told that the case is another than the one named
 abbrev pub NotAt : Found → Type 0
-NotAt f = OneOf (1 ∷ 2 ∷ []) (tag_of (declared Rattle.keytable.specs.contracts.Found.enum) f)
+NotAt f = (p : ℕ) → f ≡ At p → ⊥
 
 abbrev pub NotNothing : Found → Type 0
-NotNothing f = OneOf (0 ∷ 2 ∷ []) (tag_of (declared Rattle.keytable.specs.contracts.Found.enum) f)
+NotNothing f = f ≡ Nothing → ⊥
 
 -- along rows: whether one of them has the type and the name
 module _ (at type : ℕ) (name : List ℕ) (xs : List Row) (f : Found) (e : found_says f ≡ found_says (place_from at type name xs)) where
@@ -46,7 +42,4 @@ module _ (at type : ℕ) (name : List ℕ) (xs : List Row) (f : Found) (e : foun
   nothing-absent is = place_from-absent at type name xs (sym (says_same f (place_from at type name xs) e) ∙ is)
 
   pub else-present : NotNothing f → absent type name xs ≡ false
-  else-present other = place_from-present at type name xs (λ nothing. never f (says_same f (place_from at type name xs) e ∙ nothing) other)
-    where
-      never : (g : Found) → g ≡ Nothing → NotNothing g → ⊥
-      never g is w = ⊎_elim (λ z. omega arith) (λ z. omega arith) (rw is at w)
+  else-present other = place_from-present at type name xs (λ nothing. other (says_same f (place_from at type name xs) e ∙ nothing))

@@ -2,7 +2,6 @@
 -- Assumes nothing.
 use mathlib.Core.Path.{◌≡◌, refl, ap, ◌∙◌}
 use mathlib.Core.Bool.{Bool, true, false}
-use mathlib.Core.Logic.{⊎_elim}
 use mathlib.Core.List.{List, map}
 use mathlib.Core.Option.{some, none}
 use Prim.Native.Nat.{ℕ, zero, suc}
@@ -21,7 +20,7 @@ use Rattle.keytable.proofs.Laws.{row_for_good, finds-row}
 
 -- any case of a lookup but At says that no row was found
 pub not_found : (t : List ℕ) (f : Found) → NotAt f → row_found t f ≡ none
-not_found t (At p) w = ⊎_elim (λ z. absurd (omega arith)) (λ z. absurd (omega arith)) w
+not_found t (At p) w = absurd (w p refl)
 not_found t Nothing w = refl
 not_found t Broken w = refl
 

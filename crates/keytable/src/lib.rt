@@ -1,5 +1,7 @@
 // The key table of document 01, with document 02's types of keys: its check, and the lookup of a type and a name. specs/Table.antt has the layout,
 // specs/Calls.antt the numbers.
+#![tactic(auto)]
+
 mod row;
 mod rows;
 mod sizes;

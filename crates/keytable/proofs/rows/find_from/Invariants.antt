@@ -1,0 +1,13 @@
+use mathlib.Core.Path.{◌≡◌}
+use Prim.Native.Nat.{◌-◌, ◌≤◌}
+use lib.ListN.{drop}
+use Rattle.keytable.specs.Table.{row_place, rows_of}
+use Rattle.keytable.specs.Find.{place_from}
+use Rattle.keytable.proofs.rows.find_from.Given as goal
+
+abbrev pub invariant-loop-i : goal.invariant-loop-i
+invariant-loop-i l =
+    (l.i ≤ l.r) × (place_from (row_place l.from) l.kind l.name (drop l.from (rows_of l.t)) ≡ place_from (row_place l.i) l.kind l.name (drop l.i (rows_of l.t)))
+
+abbrev pub decreases-loop-i : goal.decreases-loop-i
+decreases-loop-i l = l.r - l.i
