@@ -1,4 +1,6 @@
 // AES-256: the block cipher of FIPS 197. A state is four columns of four bytes and a schedule fifteen round keys, all by value.
+#![tactic(auto)]
+
 mod backward;
 mod forward;
 mod schedule;

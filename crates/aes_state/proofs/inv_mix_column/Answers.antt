@@ -4,8 +4,6 @@ use Rattle.octets.proofs.Values.{four}
 use Rattle.aes_field.proofs.Unmix.{add4}
 use Rattle.aes_state.proofs.inv_mix_column.Goals as goal
 
--- the four calls, before what they gave is read
-
 pub returns : goal.returns
 returns c =
     let s = c.multiples_of-s.ensures in

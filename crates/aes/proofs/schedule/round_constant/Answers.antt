@@ -6,15 +6,8 @@ use lib.ListN.{get_or}
 use Rattle.aes_field.specs.Field.{xtime}
 use Rattle.aes_field.proofs.Computed.{agree_at}
 use Rattle.aes.specs.KeyExpansion.{power}
-use Rattle.aes.proofs.schedule.round_constant.Statement.{statement}
-use Rattle.aes.proofs.schedule.round_constant.Tie as tie
+use Rattle.aes.proofs.schedule.round_constant.Goals as goal
 
-array-read-result : tie.Need-array-read-result
-array-read-result c = search rules
-
-returns : tie.Need-returns
+pub returns : goal.returns
 unfolding power xtime
 returns c = agree_at (λ j. get_or (1 ∷ 2 ∷ 4 ∷ 8 ∷ 16 ∷ 32 ∷ 64 ∷ []) j 0) power 7 tt c.args.j (search rules)
-
-pub round_constant_spec : {M : Type 1} → statement M
-round_constant_spec = tie.close (tie.spec array-read-result returns)
