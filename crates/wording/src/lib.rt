@@ -1,4 +1,6 @@
 // What the programs read and write as text.
+#![tactic(auto)]
+
 pub mod decimal;
 pub mod hex;
 pub mod meaning;

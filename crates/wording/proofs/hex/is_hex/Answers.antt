@@ -1,0 +1,8 @@
+-- `wording::hex::is_hex` meets its contract.
+-- Assumes nothing.
+use Rattle.wording.specs.Hex.{is_hex}
+use Rattle.wording.proofs.hex.is_hex.Goals as goal
+
+pub returns : goal.returns
+unfolding is_hex
+returns c = rw c.all_digits.ensures
