@@ -86,7 +86,9 @@ module _ (s : List ℕ) (at : ℕ) where
       pub step_turn : is_reserved label kind ≡ true → strict ≡ false
           → split_step label strict at (split (drop at s)) ≡ split_step label strict (at + n) (split (drop (at + n) s))
       unfolding split_step first_shown
-      step_turn e f = rw (place_turn s at n size some, type_here, e, f, length_here)
+      step_turn e f =
+          let left = split (drop (at + n) s) in
+          rw (place_turn s at n size some, type_here, e, f, length_here) (ap (λ (b : Bool). first_shown label b (at + n) left.0 left.1) f)
 
     pub count_turn : (label : Bool)
         → length (unreserved label (split (drop at s)).0) ≡ when (is_reserved label kind) 0 1 + length (unreserved label (split (drop (at + n) s)).0)

@@ -9,7 +9,7 @@ use crate::list::{STRICT_BY_DEFAULT, Tested, check_list_as};
 use octets::big_endian::read8;
 use octets::strings::part_in;
 
-#[derive(Drop)]
+#[derive(Clone, Copy)]
 pub struct Cursor {
     pub at: usize,
     pub label: bool,

@@ -1,5 +1,7 @@
 // Descriptor lists and labels of document 01: their test, a cursor that steps along a list, and a reader that holds both.
 // specs/Parse.antt has the descriptors of a list, specs/Tested.antt, specs/Steps.antt and specs/Labels.antt the numbers.
+#![tactic(auto)]
+
 pub mod cursor;
 mod descriptor;
 pub mod label;
