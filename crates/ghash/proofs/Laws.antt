@@ -129,7 +129,7 @@ combined-from h {y} {z} hy hz (more {b = b} {bs = bs} hb hbs) (more {b = c} {bs 
     ghash-step h (xors y z) (xors b c) (combined bs cs)
     ∙ ap (λ (s : List ℕ). ghash_from h s (combined bs cs))
     (ap (λ (s : List ℕ). product s h) (xors_exchange y z b c) ∙ product_distributes-left (xors y b) (xors z c) h (block-xors hy hb) (block-xors hz hc))
-    ∙ combined-from h (product_block (xors y b) h) (product_block (xors z c) h) hbs hcs (omega arith)
+    ∙ combined-from h {y = product (xors y b) h} {z = product (xors z c) h} (product_block (xors y b) h) (product_block (xors z c) h) hbs hcs (omega arith)
     ∙ sym (ap₂ xors (ghash-step h y b bs) (ghash-step h z c cs))
 
 pub ghash-combined : GhashCombined

@@ -9,7 +9,7 @@ ghost use Rattle.ghash.specs.Words.{val, block_of};
 use octets::big_endian::bytes64;
 use octets::strings::{Block, two_eights};
 
-#[derive(Drop)]
+#[derive(Clone, Copy)]
 pub struct Wide {
     pub high: u64,
     pub low: u64,
