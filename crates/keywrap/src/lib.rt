@@ -1,4 +1,6 @@
 // AES Key Wrap of a key of 32 bytes (NIST, November 2001), over lent bytes.
+#![tactic(auto)]
+
 mod register;
 mod steps;
 
