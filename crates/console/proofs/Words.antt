@@ -10,7 +10,7 @@ use lib.ListN.{length}
 use lib.Seq.{length-take-le}
 use borrow.Author.Tests.{ltb-false}
 use Rattle.octets.proofs.Lent.{none_applies}
-use Rattle.io.specs.Counts.{IsPrefixLen}
+use Rattle.console.specs.Taken.{IsPrefixLen}
 use Rattle.wording.specs.Hex.{is_hex, hex_read}
 
 module _ (word room after : List ℕ) (n : ℕ) (reads : hex_read word room ≡ (n, after)) (done : n ≡ 0) where

@@ -5,6 +5,7 @@
 mod fields;
 mod labels;
 mod meanings;
+mod message;
 mod opening;
 mod pages;
 mod reports;
@@ -19,33 +20,33 @@ mod writing;
 use octets::strings::equal;
 
 // Each command is called in one place, so that the compiler can lay the rooms of one over those of another: the stack would not hold all side by side.
-fn run(command: &[u8]) {
+fn run(rt: &HostRuntime, command: &[u8]) {
     let only_verify = equal(command, b"verify");
     if equal(command, b"seal") {
-        sealing::seal();
+        sealing::seal(rt);
     } else if only_verify | equal(command, b"open") {
-        opening::open(only_verify);
+        opening::open(rt, only_verify);
     } else if equal(command, b"report") {
-        reports::report();
+        reports::report(rt);
     } else if equal(command, b"check-table") {
-        tables::check_table();
+        tables::check_table(rt);
     } else if equal(command, b"label") {
-        labels::label();
+        labels::label(rt);
     } else if equal(command, b"descriptors") {
-        pages::descriptors();
+        pages::descriptors(rt);
     } else if equal(command, b"write-page") {
-        writing::write_page();
+        writing::write_page(rt);
     } else if equal(command, b"wrap-page") {
-        wrapping::wrap_page();
+        wrapping::wrap_page(rt);
     } else if equal(command, b"meaning") {
-        meanings::meaning_of();
+        meanings::meaning_of(rt);
     } else {
-        saying::misuse(b"no such command");
+        saying::misuse(rt, b"no such command");
     }
 }
 
-fn main() {
-    let mut word = io::buffer();
-    let size = os::arg(1, &mut word);
-    run(&word[..size]);
+fn main(rt: HostRuntime) {
+    let mut word = [0u8; taking::ARGUMENT_ROOM];
+    let size = taking::argument(&rt, 1, &mut word);
+    run(&rt, &word[..size]);
 }

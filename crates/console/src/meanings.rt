@@ -3,10 +3,10 @@ use crate::rooms::word_room;
 use crate::saying::refuse;
 use crate::taking::take_word;
 
-pub(crate) fn meaning_of() {
+pub(crate) fn meaning_of(rt: &HostRuntime) {
     let mut number = word_room();
-    let taken = take_word(2, &mut number);
+    let taken = take_word(rt, 2, &mut number);
     if taken.whole {
-        refuse(number[0]);
+        refuse(rt, number[0]);
     }
 }

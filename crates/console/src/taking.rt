@@ -1,11 +1,18 @@
 // The arguments: files, words of hexadecimal digits, and a number.
-ghost use Rattle.io.specs.Counts.{IsPrefixLen};
+ghost use Rattle.console.specs.Taken.{IsPrefixLen};
 
-use crate::saying::{cannot_read, misuse};
-use libc::STDIN_FILENO;
+use crate::saying::{cannot_read, misuse, no_text};
 use octets::strings::equal;
+use reading::read_full;
+use std::env::{Env, FillError};
+use std::fs::File;
+use std::io;
+use std::io::Read;
 use wording::decimal::Number;
 use wording::{decimal, hex};
+
+// Room for an argument.
+pub(crate) const ARGUMENT_ROOM: usize = 4096;
 
 // How many bytes were put at the start of a lent room, and whether they are all there: where not, that was said on standard error.
 #[derive(Drop)]
@@ -14,75 +21,112 @@ pub(crate) struct Taken {
     pub(crate) whole: bool,
 }
 
-// Reads to the end of a file, or until the room is full. A read that fails stops `read_full` as the end does, and one more tells the two apart.
-fn read_open(fd: i32, path: &[u8], room: &mut [u8]) -> Taken
-    ensures { IsPrefixLen result.size room.new }
+// Argument i, at the start of the room: how many bytes it has, and 0 where it is missing or too long.
+pub(crate) fn argument(rt: &HostRuntime, i: usize, word: &mut [u8]) -> usize
+    ensures { IsPrefixLen result word.new }
 {
-    let size = io::read_full(fd, room);
-    if size == room.len() {
-        return Taken { size, whole: true };
+    match rt.arg(i, word) {
+        Ok(size) => size,
+        Err(_) => 0,
     }
-    let mut more = [0u8; 1];
-    if libc::read(fd, &mut more) != 0 {
-        cannot_read(path);
-        return Taken { size, whole: false };
-    }
-    Taken { size, whole: true }
 }
 
-fn read_path(path: &[u8], room: &mut [u8]) -> Taken
+// Whether there is an argument i, however long.
+pub(crate) fn has_argument(rt: &HostRuntime, i: usize) -> bool {
+    let mut word = [0u8; 1];
+    match rt.arg(i, &mut word) {
+        Ok(_) => true,
+        Err(e) => match e {
+            FillError::NotPresent => false,
+            FillError::TooLong => true,
+        },
+    }
+}
+
+// Reads to the end of what was opened, or until the room is full.
+fn read_open<R: Read>(rt: &HostRuntime, from: &mut R, path: &[u8], room: &mut [u8]) -> Taken
+    ensures { IsPrefixLen result.size room.new }
+{
+    match read_full(from, room) {
+        Ok(size) => Taken { size, whole: true },
+        Err(e) => {
+            cannot_read(rt, path, &e);
+            Taken {
+                size: 0,
+                whole: false,
+            }
+        }
+    }
+}
+
+fn open_path(rt: &HostRuntime, path: &str) -> io::Result<File> {
+    File::open(rt, path)
+}
+
+fn read_path(rt: &HostRuntime, path: &[u8], room: &mut [u8]) -> Taken
     ensures { IsPrefixLen result.size room.new }
 {
     if equal(path, b"-") {
-        return read_open(STDIN_FILENO, path, room);
+        return read_open(rt, &mut rt.stdin(), path, room);
     }
-    let fd = os::open_read(path);
-    if fd < 0 {
-        cannot_read(path);
+    let Ok(name) = str::from_utf8(path) else {
+        no_text(rt, path);
         return Taken {
             size: 0,
             whole: false,
         };
+    };
+    match open_path(rt, name) {
+        Ok(file) => {
+            let mut file = file;
+            read_open(rt, &mut file, path, room)
+        }
+        Err(e) => {
+            cannot_read(rt, path, &e);
+            Taken {
+                size: 0,
+                whole: false,
+            }
+        }
     }
-    let taken = read_open(fd, path, room);
-    libc::close(fd);
-    taken
 }
 
 // The file that argument i names.
-pub(crate) fn take_file(i: usize, room: &mut [u8]) -> Taken
+pub(crate) fn take_file(rt: &HostRuntime, i: usize, room: &mut [u8]) -> Taken
     ensures { IsPrefixLen result.size room.new }
 {
-    let mut path = io::buffer();
-    let size = os::arg(i, &mut path);
-    if os::errno() != 0 {
-        misuse(b"a file name is missing or too long");
+    let mut path = [0u8; ARGUMENT_ROOM];
+    let Ok(size) = rt.arg(i, &mut path) else {
+        misuse(rt, b"a file name is missing or too long");
         return Taken {
             size: 0,
             whole: false,
         };
-    }
-    read_path(&path[..size], room)
+    };
+    read_path(rt, &path[..size], room)
 }
 
 // The same, and nothing where there is no such argument.
-pub(crate) fn take_optional(i: usize, room: &mut [u8]) -> Taken
+pub(crate) fn take_optional(rt: &HostRuntime, i: usize, room: &mut [u8]) -> Taken
     ensures { IsPrefixLen result.size room.new }
 {
-    if os::arg_count() <= i {
+    if !has_argument(rt, i) {
         return Taken {
             size: 0,
             whole: true,
         };
     }
-    take_file(i, room)
+    take_file(rt, i, room)
 }
 
-fn read_word(word: &[u8], room: &mut [u8]) -> Taken
+fn read_word(rt: &HostRuntime, word: &[u8], room: &mut [u8]) -> Taken
     ensures { IsPrefixLen result.size room.new }
 {
     if hex::read(word, room) != 0 {
-        misuse(b"a name, an IV or an identifier is two hexadecimal digits for each byte");
+        misuse(
+            rt,
+            b"a name, an IV or an identifier is two hexadecimal digits for each byte",
+        );
         return Taken {
             size: 0,
             whole: false,
@@ -95,32 +139,32 @@ fn read_word(word: &[u8], room: &mut [u8]) -> Taken
 }
 
 // The bytes that argument i is the digits of. One of more than 4,096 digits is too long for any use, and its front shows that as well.
-pub(crate) fn take_word(i: usize, room: &mut [u8]) -> Taken
+pub(crate) fn take_word(rt: &HostRuntime, i: usize, room: &mut [u8]) -> Taken
     ensures { IsPrefixLen result.size room.new }
 {
-    let mut word = io::buffer();
-    let size = os::arg(i, &mut word);
-    let error = os::errno();
-    if error == libc::ENAMETOOLONG {
-        return read_word(&word, room);
+    let mut word = [0u8; ARGUMENT_ROOM];
+    match rt.arg(i, &mut word) {
+        Ok(size) => read_word(rt, &word[..size], room),
+        Err(e) => match e {
+            FillError::TooLong => read_word(rt, &word, room),
+            FillError::NotPresent => {
+                misuse(rt, b"a name, an IV or an identifier is missing");
+                Taken {
+                    size: 0,
+                    whole: false,
+                }
+            }
+        },
     }
-    if error != 0 {
-        misuse(b"a name, an IV or an identifier is missing");
-        return Taken {
-            size: 0,
-            whole: false,
-        };
-    }
-    read_word(&word[..size], room)
 }
 
 // The number that argument i is the decimal digits of; where it is none, that was said on standard error.
-pub(crate) fn take_number(i: usize) -> Number {
-    let mut word = io::buffer();
-    let size = os::arg(i, &mut word);
+pub(crate) fn take_number(rt: &HostRuntime, i: usize) -> Number {
+    let mut word = [0u8; ARGUMENT_ROOM];
+    let size = argument(rt, i, &mut word);
     let number = decimal::read(&word[..size]);
     if let Number::No = number {
-        misuse(b"a type is a number in decimal digits");
+        misuse(rt, b"a type is a number in decimal digits");
     }
     number
 }

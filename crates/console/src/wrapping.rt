@@ -6,7 +6,7 @@ use crate::taking::{take_file, take_number, take_word};
 use field_words::Fields;
 use wording::decimal::Number;
 
-fn wrap_bytes(
+fn wrap_bytes(rt: &HostRuntime, 
     table: &[u8],
     fields: Fields,
     kind: usize,
@@ -20,23 +20,24 @@ fn wrap_bytes(
     let number = page_writer::write_wrapped(
         table, &values, kind, identifier, key, list, &mut page, &mut count,
     );
-    say_filled(number, &page, count);
+    say_filled(rt, number, &page, count);
 }
 
-fn wrap_by(table: &[u8], fields: Fields, kind: usize, identifier: &[u8]) {
+fn wrap_by(rt: &HostRuntime, table: &[u8], fields: Fields, kind: usize, identifier: &[u8]) {
     let mut key = page_room();
-    let k = take_file(5, &mut key);
+    let k = take_file(rt, 5, &mut key);
     if !k.whole {
         return;
     }
     let mut list = list_room();
-    let l = take_file(6, &mut list);
+    let l = take_file(rt, 6, &mut list);
     if !l.whole {
         return;
     }
     let key_size = k.size;
     let list_size = l.size;
     wrap_bytes(
+        rt,
         table,
         fields,
         kind,
@@ -46,27 +47,28 @@ fn wrap_by(table: &[u8], fields: Fields, kind: usize, identifier: &[u8]) {
     );
 }
 
-pub(crate) fn wrap_page() {
-    let fields = take_fields(7);
+pub(crate) fn wrap_page(rt: &HostRuntime) {
+    let fields = take_fields(rt, 7);
     if !fields.good {
         return;
     }
-    let Number::Is(kind) = take_number(3) else {
+    let Number::Is(kind) = take_number(rt, 3) else {
         return;
     };
     let mut identifier = word_room();
-    let i = take_word(4, &mut identifier);
+    let i = take_word(rt, 4, &mut identifier);
     if !i.whole {
         return;
     }
     let mut table = table_room();
-    let t = take_file(2, &mut table);
+    let t = take_file(rt, 2, &mut table);
     if !t.whole {
         return;
     }
     let table_size = t.size;
     let identifier_size = i.size;
     wrap_by(
+        rt,
         &table[..table_size],
         fields,
         kind as usize,

@@ -1,20 +1,20 @@
 // NIST's cases: runs the lines of standard input on the unit, and prints their text.
-use libc::{STDIN_FILENO, STDOUT_FILENO};
+#![tactic(auto)]
+
+use reading::read_full;
+use std::io;
 
 // One byte more than an input may have.
 const ROOM: usize = 1048577;
 
 // The room comes by value.
-fn run_input(room: [u8; ROOM]) {
+fn run_input(rt: &HostRuntime, room: [u8; ROOM]) -> io::Result<()> {
     let mut input = room;
-    let n = io::read_full(STDIN_FILENO, &mut input);
+    let n = read_full(&mut rt.stdin(), &mut input)?;
     let text = cases::run(&input[..n]);
-    io::write_all(
-        STDOUT_FILENO,
-        octets::strings::part(&text.bytes, 0, text.size),
-    );
+    rt.write_all(octets::strings::part(&text.bytes, 0, text.size))
 }
 
-fn main() {
-    run_input([0u8; ROOM]);
+fn main(rt: HostRuntime) -> io::Result<()> {
+    run_input(&rt, [0u8; ROOM])
 }
