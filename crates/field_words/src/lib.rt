@@ -1,4 +1,6 @@
 // The fields of a key page from words such as `scope=2`, as a user gives them. specs/Words.antt says how a word is read, specs/Fields.antt what it does.
+#![tactic(auto)]
+
 mod words;
 
 ghost use Rattle.std.specs.Prelude.{◌≡◌, [], ◌<◌, get_or};
@@ -15,7 +17,7 @@ use words::{name_in, value_in};
 const FIELD_COUNT: usize = 12;
 
 // The fields' values, which of them were named, and whether all words were good.
-#[derive(Drop)]
+#[derive(Clone, Copy)]
 pub struct Fields {
     pub values: [u64; FIELD_COUNT],
     pub named: [bool; FIELD_COUNT],
