@@ -2,7 +2,7 @@
 # Sourced by what builds or runs x86-64 code: tests/part.sh for the tests, bench/run, and the scripts of examples/. Sets
 #   kit   the Rattle kit's folder
 #   cc    the C compiler for x86-64, which is what libspadeswirl.a is for
-#   run   what runs such a program here: nothing on x86-64, the kit's emulator on Arm
+#   run   what runs such a program here: nothing on x86-64, for which alone the kit has a toolchain
 # and gives `need COMMAND PACKAGE`, which installs a Debian package where a command is missing.
 
 need() {
@@ -20,7 +20,7 @@ install_package() {
 }
 
 command -v rt >/dev/null 2>&1 || { echo "rt, the Rattle kit's command, is not on the PATH"; return 1; }
-kit=$(dirname "$(dirname "$(rt doc)")")
+kit=$(dirname "$(rt doc)")
 
 # The second program is built for this machine, whichever it is.
 need gcc gcc || return 1
@@ -29,11 +29,6 @@ need gcc gcc || return 1
 case $(uname -m) in
 x86_64)
     cc="gcc -static" run=
-    ;;
-aarch64)
-    need x86_64-linux-gnu-gcc gcc-x86-64-linux-gnu || return 1
-    [ -e /usr/x86_64-linux-gnu/include/stdio.h ] || install_package libc6-dev-amd64-cross || return 1
-    cc="x86_64-linux-gnu-gcc -static" run=$kit/on/aarch64/toolchain/bin/qemu-x86_64
     ;;
 *)
     echo "the kit has no toolchain for $(uname -m)"

@@ -128,15 +128,19 @@ zeros() { head -c "$1" /dev/zero; }
 # shellcheck source=tests/machine.sh
 . tests/machine.sh || give_up "this machine lacks what the tests are built or run with"
 
-# The kit's tools for this machine; and how a C program is built, a warning being an error.
-tools=$kit/on/$(uname -m)/toolchain
+# The kit's tools; and how a C program is built, a warning being an error.
+tools=$kit/toolchain
 flags=(-std=gnu99 -O2 -Wall -Wextra -Werror)
+
+# in_crate CRATE COMMAND ..: a command in the crate's folder, where rt works on that crate.
+in_crate() { (cd "crates/$1" && "${@:2}"); }
 
 # x86 PROGRAM WORD ..: runs a program for x86-64.
 x86() { ${run:+"$run"} "$@"; }
 
-# library CRATE: its static library, proved and built.
-library() { must "the static library of $1 was not built" rt staticlib "$1"; }
+# library CRATE: its static library, proved and built. archive CRATE: where that is.
+archive() { echo "crates/$1/out/lib$1.a"; }
+library() { must "the static library of $1 was not built" in_crate "$1" rt lib; }
 
 # build NAME: a C program, into the folder. One of tests/c is over the static library, for x86-64, and boot.c over that of the boot part, which is
 # built for it; one of tests/second is on OpenSSL's libcrypto, for this machine. A writer of lines runs for less time than more optimizing takes.
@@ -148,7 +152,7 @@ build() {
     if [ "$at" = tests/c ]; then
         [ "$1" != boot ] || { crate=spadeswirl_boot; library $crate; }
         # shellcheck disable=SC2086
-        must "$at/$1.c was not built" $cc "${flags[@]}" -Iinclude -o "$folder/$1" "$at/$1.c" "target/staticlib/lib$crate.a"
+        must "$at/$1.c was not built" $cc "${flags[@]}" -Iinclude -o "$folder/$1" "$at/$1.c" "$(archive $crate)"
         return
     fi
     [ "$at" = tests/second ] || how=(-Og)
@@ -167,15 +171,14 @@ programs() {
     done
 }
 
-# proved NAME: the unit's program of that name, proved and built. unit NAME WORD ..: runs it, by the kit's loader.
+# proved NAME: the unit's program of that name, proved and built; rt runs what it has built, with nothing to read. unit NAME WORD ..: runs it.
 proved() {
-    [ -e "target/bin/$1" ] || rm -f "target/stamp/$1"
-    must "the program $1 was not proved and built" rt check "$1"
+    must "the program $1 was not proved and built" in_crate "$1" rt run
 }
 unit() {
-    local built=target/bin/$1
+    local built=crates/$1/out/$1
     shift
-    x86 "$tools/lib/ld-linux-x86-64.so.2" --library-path "$tools/lib" "$built" "$@"
+    x86 "$built" "$@"
 }
 
 # The answers of both programs on lines of calls: unit_answers LINES ANSWERS, second_answers LINES ANSWERS.
