@@ -1,7 +1,7 @@
 -- Of two blocks that differ in their last byte alone, rounds 1 and 2 of one from those of the other: what the last byte, and then column 0,
 -- adds is taken away and what the other's adds is put there. Exclusive or is its own inverse, and its order is free.
 -- Assumes nothing.
-use mathlib.Core.Path.{◌≡◌, refl, sym, ap, ap₂, ◌∙◌}
+use mathlib.Core.Path.{◌≡◌, refl, sym, ap, ◌∙◌}
 use mathlib.Core.List.{[], ◌∷◌}
 use Prim.Native.Nat.{ℕ}
 use lib.Bits.{bit_xor, xor_comm}

@@ -9,7 +9,7 @@ use crate::halves::Halves;
 use crate::words::column_word;
 use aes_state::State;
 
-#[derive(Drop)]
+#[derive(Clone, Copy)]
 pub struct FourWords {
     pub a: u32,
     pub b: u32,

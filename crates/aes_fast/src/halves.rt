@@ -11,13 +11,13 @@ use crate::words::{column_word, word_at};
 use aes_state::State;
 use octets::strings::{Block, put};
 
-#[derive(Drop)]
+#[derive(Clone, Copy)]
 pub struct Halves {
     pub first: u64,
     pub second: u64,
 }
 
-#[derive(Drop)]
+#[derive(Clone, Copy)]
 pub struct Both {
     pub one: Halves,
     pub other: Halves,

@@ -1,4 +1,6 @@
 // AES-256 by constant tables of words that a caller lends down, one block or two at a time.
+#![tactic(auto)]
+
 mod four_words;
 pub mod halves;
 mod rounds;

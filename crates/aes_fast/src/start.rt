@@ -14,7 +14,7 @@ use aes::RoundKeys;
 use octets::strings::Block;
 
 // The last byte's key; column 0 of round 1 without what the last byte adds; round 2 without what that column adds.
-#[derive(Drop)]
+#[derive(Clone, Copy)]
 pub struct Start {
     pub key: u8,
     pub first: u32,

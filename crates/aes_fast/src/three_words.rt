@@ -11,7 +11,7 @@ use crate::halves::{Halves, half_of};
 use crate::words::column_word;
 use aes_state::State;
 
-#[derive(Drop)]
+#[derive(Clone, Copy)]
 pub struct ThreeWords {
     pub first: u64,
     pub c: u32,

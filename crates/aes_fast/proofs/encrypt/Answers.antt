@@ -1,0 +1,15 @@
+-- `aes_fast::encrypt` meets its contract: by what each call ensures, and since its parameters hold bytes.
+-- Assumes nothing.
+use mathlib.Core.Path.{refl, ◌∙◌}
+use Rattle.octets.proofs.Arrays.{array_bytes}
+use Rattle.aes_fast.proofs.Steps.{cipher_by_read}
+use Rattle.aes_fast.proofs.Cipher.{ciphered}
+use Rattle.aes_fast.proofs.encrypt.Goals as goal
+
+pub returns : goal.returns
+returns c =
+    let a = c.args in
+    ciphered _ _ (array_bytes 16 a.b _ c.well_formed.1.1.0)
+    (c.block.ensures
+    ∙ cipher_by_read a.t.now a.ks.now c.halves_from.result c.halves_of.result c.add_halves.result c.rounds_after.result
+    c.halves_from.ensures c.halves_of.ensures c.add_halves.ensures refl c.rounds_after.ensures)
