@@ -1,4 +1,6 @@
 // Writing a key page (document 02, No. 3), of its fields, its KEY part and its descriptors. specs/Written.antt has the page, specs/Write.antt the numbers.
+#![tactic(auto)]
+
 mod fields;
 mod filling;
 mod numbers;
