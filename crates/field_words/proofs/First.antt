@@ -8,11 +8,11 @@ use native.Mathlib.Numerals.{add-one}
 use native.Mathlib.Omega.{arith}
 use lib.ListN.{length, get_or, drop, drop_of_length-le}
 use lib.Seq.{drop-cons}
-use borrow.Author.Tests.{not-true}
+use borrow.Author.Tests.{not-true, eq-eqb, ne_eqb}
 use Rattle.octets.specs.Lent.{when}
 use Rattle.octets.specs.Tests.{all}
 use Rattle.octets.proofs.Tests.{and_left, and_right}
-use Rattle.field_words.specs.Words.{first_place}
+use Rattle.field_words.specs.Words.{first_place, equals_sign, is_equals}
 
 pub first_within : {A : Type 0} (p : A → Bool) (s : List A) → first_place p s ≤ length s
 unfolding first_place
@@ -65,3 +65,14 @@ module _ {A : Type 0} (p : A → Bool) (s : List A) where
     pub first_end : length s ≤ i → i ≡ first_place p s
     unfolding first_place
     first_end h = let none : first_place p (drop i s) ≡ 0 = rw (drop_of_length-le s h) in omega (arith, passed.left)
+
+-- ---- the same at the first `=`, as the code's search for it has them
+
+module _ (word : List ℕ) (i : ℕ) (passed : PassedTo is_equals word i) where
+  pub equals-stop : i < length word → get_or word i 0 ≡ equals_sign → i ≡ first_place is_equals word
+  equals-stop h e = first-stop is_equals word passed 0 h (eq-eqb (get_or word i 0) equals_sign e)
+
+  pub equals_turn : i < length word → (get_or word i 0 ≡ equals_sign → ⊥) → PassedTo is_equals word (i + 1)
+  equals_turn h e = first_turn is_equals word passed 0 h (ne_eqb (get_or word i 0) equals_sign e)
+
+pub ruleset equals_steps = (equals-stop, equals_turn, first_end)

@@ -5,6 +5,7 @@ ghost use Rattle.field_words.specs.Words.{equals_at, word_name, word_value};
 use octets::strings::part;
 
 // Where the first `=` stands, and the word's length where there is none.
+#[tactic(auto, using(crate::proofs::First::equals_steps))]
 fn equals_at(word: &[u8]) -> usize
     ensures { result ≡ equals_at word.now }
 {
