@@ -1,4 +1,6 @@
 // CBC-MAC as a running chain: a state, and how many bytes of its block it has taken. By tables and round keys that a caller lends down.
+#![tactic(auto)]
+
 ghost use Rattle.std.specs.Prelude.{◌≡◌, ◌+◌, ◌%◌, ◌≤◌, length};
 ghost use Rattle.octets.specs.Running.{add_from, absorb, close};
 ghost use Rattle.aes_fast.specs.ByTables.{cipher_by};
