@@ -1,5 +1,7 @@
 // The C interface for a drive's boot part: the unwrapping of a key, by itself. In libspadeswirl.a the constants of all calls stand in one section,
 // which most linkers bring to a program whole; this archive has no more of them than unwrapping needs.
+#![tactic(auto)]
+
 ghost use Rattle.std.specs.Prelude.{◌≡◌};
 ghost use Rattle.keywrap.specs.Calls.{unwrap_answer};
 
