@@ -88,7 +88,11 @@ module _ (t : Tables) (k : State) where
   unfolding round_by
   round-column y₀ y₁ y₂ y₃ y =
       four
-      (sym (sum_a (table_entry t 0 (get_or y₀ 0 0)) (table_entry t 1 (get_or y₁ 1 0)) (table_entry t 2 (get_or y₂ 2 0)) (table_entry t 3 (get_or y₃ 3 0)) (column k 0) (table_entry t 0 (get_or y 0 0))))
-      (sym (sum_d (table_entry t 0 (get_or y₁ 0 0)) (table_entry t 1 (get_or y₂ 1 0)) (table_entry t 2 (get_or y₃ 2 0)) (table_entry t 3 (get_or y₀ 3 0)) (column k 1) (table_entry t 3 (get_or y 3 0))))
-      (sym (sum_c (table_entry t 0 (get_or y₂ 0 0)) (table_entry t 1 (get_or y₃ 1 0)) (table_entry t 2 (get_or y₀ 2 0)) (table_entry t 3 (get_or y₁ 3 0)) (column k 2) (table_entry t 2 (get_or y 2 0))))
-      (sym (sum_b (table_entry t 0 (get_or y₃ 0 0)) (table_entry t 1 (get_or y₀ 1 0)) (table_entry t 2 (get_or y₁ 2 0)) (table_entry t 3 (get_or y₂ 3 0)) (column k 3) (table_entry t 1 (get_or y 1 0))))
+      (sym (sum_a (table_entry t 0 (get_or y₀ 0 0)) (table_entry t 1 (get_or y₁ 1 0)) (table_entry t 2 (get_or y₂ 2 0)) (table_entry t 3 (get_or y₃ 3 0))
+      (column k 0) (table_entry t 0 (get_or y 0 0))))
+      (sym (sum_d (table_entry t 0 (get_or y₁ 0 0)) (table_entry t 1 (get_or y₂ 1 0)) (table_entry t 2 (get_or y₃ 2 0)) (table_entry t 3 (get_or y₀ 3 0))
+      (column k 1) (table_entry t 3 (get_or y 3 0))))
+      (sym (sum_c (table_entry t 0 (get_or y₂ 0 0)) (table_entry t 1 (get_or y₃ 1 0)) (table_entry t 2 (get_or y₀ 2 0)) (table_entry t 3 (get_or y₁ 3 0))
+      (column k 2) (table_entry t 2 (get_or y 2 0))))
+      (sym (sum_b (table_entry t 0 (get_or y₃ 0 0)) (table_entry t 1 (get_or y₀ 1 0)) (table_entry t 2 (get_or y₁ 2 0)) (table_entry t 3 (get_or y₂ 3 0))
+      (column k 3) (table_entry t 1 (get_or y 1 0))))

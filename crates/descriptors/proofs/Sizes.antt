@@ -21,7 +21,8 @@ unfolding size_of
 size-whole s z fits = rw (z, fits)
 
 -- the size as it is read: z the second byte, n the size that is said, and b whether both tests hold
-pub size_read : (s : List ℕ) (z n : ℕ) (b : Bool) → z ≡ get_or s 1 0 → n ≡ number_at 2 s 2 → (eqb z 0 && leb (descriptor_head_size + n) (length s)) ≡ b → when b (descriptor_head_size + n) 0 ≡ size_of s
+pub size_read : (s : List ℕ) (z n : ℕ) (b : Bool) → z ≡ get_or s 1 0 → n ≡ number_at 2 s 2 → (eqb z 0 && leb (descriptor_head_size + n) (length s)) ≡ b
+    → when b (descriptor_head_size + n) 0 ≡ size_of s
 unfolding size_of size_said
 size_read s z n b ez en e = rw (← ez, ← en, e)
 

@@ -115,7 +115,8 @@ wraps_and_writes t v type identifier key list out after n m e =
         kek-type = not-false (is_kek_type type) (or_right (not (fields_good v) || not (eqb (format_given v) wrapped_format)) (not (is_kek_type type)) (none_of 2));
         named = omega (arith, eqb-false (length identifier) 0 (or_right (not (page_list_ok list) || is_not key_size_lem key) (eqb (length identifier) 0) (none_of 1)));
         named_short = name_short identifier list (none_of 3);
-        key_size = is_not-false key_size_lem key (or_right (not (page_list_ok list)) (is_not key_size_lem key) (or_left (not (page_list_ok list) || is_not key_size_lem key) (eqb (length identifier) 0) (none_of 1)));
+        key_size = is_not-false key_size_lem key (or_right (not (page_list_ok list)) (is_not key_size_lem key)
+          (or_left (not (page_list_ok list) || is_not key_size_lem key) (eqb (length identifier) 0) (none_of 1)));
       },
     )
   where

@@ -14,7 +14,8 @@ use Rattle.octets.proofs.Bytes.{bytes_take, bytes_drop}
 use Rattle.octets.proofs.Tests.{every_at, length_part, parts_whole}
 use Rattle.modes.specs.Modes.{mode_of}
 use Rattle.modes.proofs.Laws.{modes_permit}
-use Rattle.record.specs.Record.{record_format, name_at, iv_at_lem, text_at_lem, tag_at, mode_in, count_in, name_size_lem, mode_for, end_in, layout_tests, layout_ok, front_in, name_in, iv_in, text_in, tag_in}
+use Rattle.record.specs.Record.{record_format, name_at, iv_at_lem, text_at_lem, tag_at, mode_in, count_in, name_size_lem}
+use Rattle.record.specs.Record.{mode_for, end_in, layout_tests, layout_ok, front_in, name_in, iv_in, text_in, tag_in}
 
 -- each word of the header and the end, as the layout has them
 pub record Kept (r : List ℕ) : Type 0 where

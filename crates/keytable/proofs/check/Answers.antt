@@ -25,4 +25,5 @@ returns-then-not-rows_differ c = sym (table-refused _ 2 (sym c.rows_differ.ensur
 
 pub returns : goal.returns
 returns c =
-    rw c.read16-r.ensures.0 (sym (table_accepted _ (sym c.head_ok.ensures ∙ c.if-not-head_ok.false) (sym c.rows_ok.ensures ∙ c.if-not-rows_ok.false) (sym c.rows_differ.ensures ∙ c.if-not-rows_differ.false)))
+    rw c.read16-r.ensures.0 (sym (table_accepted _ (sym c.head_ok.ensures ∙ c.if-not-head_ok.false) (sym c.rows_ok.ensures ∙ c.if-not-rows_ok.false)
+    (sym c.rows_differ.ensures ∙ c.if-not-rows_differ.false)))

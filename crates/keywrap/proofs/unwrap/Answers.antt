@@ -18,7 +18,10 @@ returns-then-wrong_wrapped c =
     unwrap-length _ _ _ (sym c.wrong_key.ensures ∙ c.if-wrong_key.false) (sym c.no_room_key.ensures ∙ c.if-no_room_key.false) (sym c.wrong_wrapped.ensures ∙ c.if-wrong_wrapped.true)
 
 pub unwrapped_of-r-requires : goal.unwrapped_of-r-requires
-unwrapped_of-r-requires c = (is_not-false 32 c.args.kek.now (sym c.wrong_key.ensures ∙ c.if-wrong_key.false), is_not-false 40 c.args.wrapped.now (sym c.wrong_wrapped.ensures ∙ c.if-wrong_wrapped.false))
+unwrapped_of-r-requires c = (
+  is_not-false 32 c.args.kek.now (sym c.wrong_key.ensures ∙ c.if-wrong_key.false),
+  is_not-false 40 c.args.wrapped.now (sym c.wrong_wrapped.ensures ∙ c.if-wrong_wrapped.false),
+)
 
 pub returns-then-wrong_start : goal.returns-then-wrong_start
 returns-then-wrong_start c =
@@ -28,7 +31,8 @@ returns-then-wrong_start c =
 
 pub returns : goal.returns
 returns c =
-    unwrap-done _ _ _ c.unwrapped_of-r.result c.unwrapped_of-r.ensures _ _ (sym c.wrong_key.ensures ∙ c.if-wrong_key.false) (sym c.no_room_key.ensures ∙ c.if-no_room_key.false) (sym c.wrong_wrapped.ensures ∙ c.if-wrong_wrapped.false)
+    unwrap-done _ _ _ c.unwrapped_of-r.result c.unwrapped_of-r.ensures _ _ (sym c.wrong_key.ensures ∙ c.if-wrong_key.false)
+    (sym c.no_room_key.ensures ∙ c.if-no_room_key.false) (sym c.wrong_wrapped.ensures ∙ c.if-wrong_wrapped.false)
     (start_tested _ _ c.args.out.now c.unwrapped_of-r.result c.unwrapped_of-r.ensures true
     (not-false _ (sym c.wrong_start.ensures ∙ c.if-wrong_start.false)))
     c.give_key.ensures

@@ -1,5 +1,6 @@
 -- The two ends of a walk.
---     Scene 𝓛          over what a walk goes, beside the logic 𝓛 (a heap, the ghost state and their rules): what the clauses read the memory and a routine's run as, what calls and loops mean, and that calls are monotone under a frame
+--     Scene 𝓛          over what a walk goes, beside the logic 𝓛 (a heap, the ghost state and their rules): what the clauses read the memory and a routine's run as, what calls and loops mean,
+--                      and that calls are monotone under a frame
 --     of_type          a machine value is of its MIR type, as a store asks
 --     Walked           what a walk shows: from what there is on entry, the function's MIR runs to the end of a walk (the kit's `walk_of`)
 --     starts           a walk begins: [the tokens; what each parameter owns; the locals]

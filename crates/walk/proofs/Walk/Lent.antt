@@ -2,7 +2,8 @@
 --     opened x         a `&mut` is opened: [the struct's cell; what the struct owns; the open borrow; two entries of the ghost name], with the struct's relation
 --     closed x h       it is closed at another value h, and is owned at that value
 --     counted, plainly     what a number, or a struct of numbers, owns is had for nothing
---     learnt           of a `&mut [T]` that a callee was given: its last list is as long as the list passed. What is left is what `slice_passed_on` has at exit: that the list is the last, and the borrow
+--     learnt           of a `&mut [T]` that a callee was given: its last list is as long as the list passed. What is left is what `slice_passed_on` has at exit: that the list is the last, and
+--                      the borrow
 --     learnt_alone     the same where the borrow stands elsewhere
 -- Assumes `Logic`.
 use mathlib.Core.Path.{◌≡◌, refl}

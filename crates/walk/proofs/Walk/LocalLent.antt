@@ -5,7 +5,8 @@
 --     has_back k       the loan is over: [κ's token; what the last value owns], and `_k` holds the last value
 --     has_back_alone   the same without the borrow, which the callee hands back closed
 --     field_out        what a field owns, out of what its struct owns
--- `lends` takes κ's token and what the value owns; `has_back` takes the loan's token, κ's, what the callee says of the last value (that it is the last, and the borrow, closed), and what the lender keeps. Assumes `Logic`.
+-- `lends` takes κ's token and what the value owns; `has_back` takes the loan's token, κ's, what the callee says of the last value (that it is the last, and the borrow, closed), and what the
+-- lender keeps. Assumes `Logic`.
 use mathlib.Core.Path.{◌≡◌, sym, subst}
 use mathlib.Core.List.{List, [], ◌∷◌}
 use Prim.Native.Nat.{ℕ, zero, suc}
@@ -159,6 +160,7 @@ module _ {M : Type 1} {𝓤 : Ura M} {𝓛 : Logic 𝓤} {K : Type 0} {Γ : List
   pub has_back : K → (k : ℕ) (N : Known R) (h : R.Denot) (q : Share) {ν : ℕ} {κ : Lft} {δ : GName} → raw_all R.mir ≡ raw_ty (spot_of 𝓤 H E k).0 ∷ []
       → (Is R h (N.val h ∷ []) → Typed R.mir (N.val h ∷ [])
       → Seq K 𝓛 (‵ (flft κ q) ∷ ‵ (R.own_val h (N.val h ∷ [])) ∷ put 𝓛 (at 𝓛 Γ k) (‵ (fat full_share (spot_of 𝓤 H E k).0 (spot_of 𝓤 H E k).1 zero (N.val h))) Γ) (runs C Λ E rest p))
-      → Seq K 𝓛 (‵ (flft (ν ∷ κ) (left q)) ∷ ‵ (flft κ (right q)) ∷ ‵ (fsep (fres δ (R.coded.code h)) (fbor (ν ∷ κ) (Body (mem R) (spot_of 𝓤 H E k).1 zero δ))) ∷ kept 𝓛 R (spot_of 𝓤 H E k).1 ν κ (left q) δ ∷ Γ)
+      → Seq K 𝓛 (‵ (flft (ν ∷ κ) (left q)) ∷ ‵ (flft κ (right q))
+      ∷ ‵ (fsep (fres δ (R.coded.code h)) (fbor (ν ∷ κ) (Body (mem R) (spot_of 𝓤 H E k).1 zero δ))) ∷ kept 𝓛 R (spot_of 𝓤 H E k).1 ν κ (left q) δ ∷ Γ)
       (runs C Λ E rest p)
   has_back t k N h q fits go = move t (2 ∷ []) $ fsplit t $ move t (1 ∷ []) $ drop t $ move t (1 ∷ 2 ∷ 0 ∷ []) $ has_back_alone t k N h q fits go

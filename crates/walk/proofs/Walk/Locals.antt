@@ -14,7 +14,8 @@ use lib.ListN.{length, take}
 use mir.Syntax.{Ty, Local, Fn, return}
 use mir.Val.{Val, WT, has_ty}
 use base.Logic.{SProp, ent, sep, wand, emp, id⊢, via, comm∗, assoc∗, mono_l, mono_r, fst∗, emp∗, wand_i, all_i, guard_i}
-use base.Fml.{Fml, ftrue, ffalse, feq, flt, fsep, fand, for, fwand, fex, fall, fupd, fat, froom, fdies, flft, fdead, fobs, fauth, fres, fown, fbor, fobor, flent, fshr_bor, finv, fnamed, ftok, fkid, fme, fsent, fhide, fleft}
+use base.Fml.{Fml, ftrue, ffalse, feq, flt, fsep, fand, for, fwand, fex, fall, fupd, fat, froom, fdies, flft}
+use base.Fml.{fdead, fobs, fauth, fres, fown, fbor, fobor, flent, fshr_bor, finv, fnamed, ftok, fkid, fme, fsent, fhide, fleft}
 use prog.Wp.{Env, Calls, Loops, WpFn, Wp, at_return, ty_of, alloc, params, pass, release, spot_of}
 use types.Logic.{Logic, sem}
 use types.Kit.{Item, ‵, raw, ◌⊛◌, some as some', given, later, ⋆, nth, push, pop, ++⊢, ⊢++, prop, runs, at_ret, Seq, Step, step, ◌$◌, ◌∵◌, !, qed, move, drop, split, join, done}

@@ -11,8 +11,12 @@ loop-i-init c = (omega arith, refl, refl)
 
 pub loop-i-preserved : goal.loop-i-preserved
 loop-i-preserved c =
-    let l = c.loop-i in
-    (omega arith, simp length-set l.invariant.1, register_bytes_turn c.args.r l.s l.i c.well_formed.0.1.0.1 (each_owned c.args.r c.well_formed.0.0 c.well_formed.0.1.1) l.invariant.1 (omega arith) l.invariant.2)
+    let l = c.loop-i in (
+      omega arith,
+      simp length-set l.invariant.1,
+      register_bytes_turn c.args.r l.s l.i c.well_formed.0.1.0.1
+          (each_owned c.args.r c.well_formed.0.0 c.well_formed.0.1.1) l.invariant.1 (omega arith) l.invariant.2,
+    )
 
 pub returns : goal.returns
 returns c =
