@@ -27,6 +27,7 @@ pub(crate) fn rest(s: &[u8], at: usize) -> &[u8]
 }
 
 // The bytes of the whole descriptor that a list begins with, or 0.
+#[tactic(auto, unfolding(crate::specs::Descriptor::size_of, crate::specs::Descriptor::size_said))]
 pub(crate) fn size_of(s: &[u8]) -> usize
     ensures { result ≡ size_of s.now }
 {

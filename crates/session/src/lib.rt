@@ -109,6 +109,7 @@ pub fn advance(s: Session) -> Issued
 }
 
 // One issue of a session by value, with the IV in the first twelve bytes lent.
+#[tactic(auto, unfolding(crate::specs::Calls::issue_answer, crate::specs::Calls::issue_number, crate::specs::Calls::advance_answer, crate::specs::Calls::advance_number))]
 pub(crate) fn give(s: Session, out: &mut [u8]) -> Outcome
     ensures { issue_answer s out.old ≡ (result.number, out.new, result.session) }
 {
