@@ -2,6 +2,8 @@
 // name=value.
 // What a command gives goes to standard output. A refusal is a line `6: no row of that type and name` on standard error, and misuse any other line there:
 // a program has no exit status, so `./spadeswirl` makes one of these.
+#![tactic(auto)]
+
 mod fields;
 mod labels;
 mod meanings;

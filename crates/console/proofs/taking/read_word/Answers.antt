@@ -1,0 +1,7 @@
+-- `console::taking::read_word` meets its contract.
+-- Assumes nothing.
+use Rattle.console.proofs.Words.{word_counts}
+use Rattle.console.proofs.taking.read_word.Goals as goal
+
+pub returns : goal.returns
+returns c = ?
