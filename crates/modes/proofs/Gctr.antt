@@ -54,7 +54,7 @@ module _ (f : List ℕ → List ℕ) (icb : List ℕ) where
     bytes-stream : {cb : List ℕ} (n : ℕ) → Bytes cb → Bytes (stream f (counter_blocks cb n))
     unfolding inc32
     bytes-stream zero h = bytes_nil
-    bytes-stream {cb} (suc n) h = bytes_append (bytes cb h) (bytes-stream n (bytes_append (bytes_take 12 h) (bytes-be 4 _)))
+    bytes-stream {cb} (suc n) h = bytes_append (bytes cb h) (bytes-stream {cb = inc32 cb} n (bytes_append (bytes_take 12 h) (bytes-be 4 _)))
 
     pub bytes-gctr : {s : List ℕ} → Bytes icb → Bytes s → Bytes (gctr f icb s)
     unfolding gctr

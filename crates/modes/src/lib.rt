@@ -1,4 +1,6 @@
 // CCM and GCM over AES-256 (SP 800-38C, SP 800-38D), each by the byte that names it.
+#![tactic(auto)]
+
 mod arguments;
 mod ccm;
 mod counter;

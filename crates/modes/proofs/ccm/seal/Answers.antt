@@ -1,0 +1,17 @@
+-- `modes::ccm::seal` meets its contract: the ciphertext over the front of the output, and the tag after it.
+-- Assumes nothing.
+use mathlib.Core.Path.{ap, ◌∙◌}
+use mathlib.Core.List.{◌++◌}
+use Rattle.octets.specs.Xor.{xors}
+use Rattle.aes.specs.Cipher.{cipher}
+use Rattle.aes.proofs.Laws.{cipher-length}
+use Rattle.modes.proofs.CcmFormat.{sealed_steps}
+use Rattle.modes.proofs.ccm.seal.Goals as goal
+
+pub returns : goal.returns
+returns c =
+    let a = c.args in
+    let sealed = c.pass-z.ensures in
+    sealed_steps (cipher a.ks.now) (cipher-length a.ks.now) a.iv.now (a.a.now ++ a.b.now) c.requires.1 c.base_of-base.ensures
+    a.p.now a.out.now c.requires.4 c.chain_start-begun.ensures.chain_value sealed.value sealed.out_after
+    (c.xor_blocks-tag.ensures ∙ ap (xors c.pass-z.result) c.chain_start-begun.ensures.pad_value) c.put.ensures

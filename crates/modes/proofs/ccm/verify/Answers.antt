@@ -1,0 +1,16 @@
+-- `modes::ccm::verify` meets its contract: the tag of the plaintext that the ciphertext gives decides.
+-- Assumes nothing.
+use mathlib.Core.Path.{ap, ◌∙◌}
+use mathlib.Core.List.{◌++◌}
+use Rattle.octets.specs.Xor.{xors}
+use Rattle.aes.specs.Cipher.{cipher}
+use Rattle.aes.proofs.Laws.{cipher-length}
+use Rattle.modes.proofs.CcmFormat.{opened-number}
+use Rattle.modes.proofs.ccm.verify.Goals as goal
+
+pub returns : goal.returns
+returns c =
+    let a = c.args in
+    opened-number (cipher a.ks.now) (cipher-length a.ks.now) a.iv.now (a.a.now ++ a.b.now) c.requires.1 c.base_of-base.ensures
+    a.c.now a.tag.now c.requires.4 c.chain_start-begun.ensures.chain_value c.pass-z.ensures.value
+    (c.xor_blocks-right.ensures ∙ ap (xors c.pass-z.result) c.chain_start-begun.ensures.pad_value) c.tag_number.ensures

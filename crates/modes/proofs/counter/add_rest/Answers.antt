@@ -1,0 +1,23 @@
+-- `modes::counter::add_rest` meets its contract: a block or what there is, and then what is left.
+-- Assumes nothing.
+use mathlib.Core.Path.{sym, ◌∙◌}
+use native.Mathlib.Omega.{arith}
+use lib.ListN.{length}
+use Rattle.octets.proofs.Lent.{over-whole}
+use Rattle.aes.specs.Cipher.{cipher}
+use Rattle.aes.proofs.Laws.{cipher-length}
+use Rattle.modes.specs.Counter.{width, front_of}
+use Rattle.modes.proofs.Limits.{least_inside, least-whole}
+use Rattle.modes.proofs.Stream.{parts-over, length-ctr}
+use Rattle.modes.proofs.counter.add_rest.Goals as goal
+
+pub returns : goal.returns
+returns c =
+    let a = c.args in
+    let h = c.least-middle in
+    let n = length a.text.now in
+    let F = cipher a.ks.now in
+    let size = cipher-length a.ks.now in
+    parts-over F size (width a.wide) (front_of a.wide a.base) a.i 1 h.result a.text.now a.out.now (omega (arith, c.requires.2))
+    (least_inside 16 n h.ensures) (omega arith) (least-whole 16 n h.ensures) c.add_single.ensures c.add_single-2.ensures
+    ∙ over-whole _ a.out.now (length-ctr F size (width a.wide) (front_of a.wide a.base) a.i a.text.now ∙ sym c.requires.2)

@@ -1,0 +1,13 @@
+-- `modes::gcm::verify` meets its contract: the tag of the ciphertext decides.
+-- Assumes nothing.
+use mathlib.Core.List.{◌++◌}
+use Rattle.aes.specs.Cipher.{cipher}
+use Rattle.aes.proofs.Laws.{cipher-length}
+use Rattle.modes.proofs.GcmTagged.{opened-number}
+use Rattle.modes.proofs.gcm.verify.Goals as goal
+
+pub returns : goal.returns
+returns c =
+    let a = c.args in
+    opened-number (cipher a.ks.now) (cipher-length a.ks.now) a.iv.now (a.a.now ++ a.b.now) c.requires.1 c.base_of.ensures
+    a.c.now a.tag.now c.tag_of-right.ensures c.tag_number.ensures

@@ -1,0 +1,58 @@
+-- `modes::passes::pass` meets its contract: from the state and the counter reached the blocks that are left lead to the result, and the pad is that counter's.
+-- Assumes nothing.
+use mathlib.Core.Path.{◌≡◌, refl, ◌∙◌}
+use mathlib.Core.Bool.{false}
+use Prim.Native.Nat.{◌+◌}
+use native.Mathlib.Omega.{arith}
+use Rattle.octets.specs.Blocks.{cut, chain}
+use Rattle.aes.specs.Cipher.{cipher}
+use Rattle.aes.proofs.Laws.{cipher-length}
+use Rattle.modes.specs.Counter.{counter_block, front_of}
+use Rattle.modes.proofs.CcmPass.{plain_text, passed_start, passed_block, passed_chained, passed-written}
+use Rattle.modes.proofs.passes.pass.Goals.{After-chain_last-z}
+use Rattle.modes.proofs.passes.pass.Goals as goal
+
+-- the pad of its counter
+pad-is : (c : After-chain_last-z) → (let a = c.args in c.block-last.result ≡ cipher a.ks (counter_block 3 (front_of false a.base) c.loop-at.k))
+pad-is c = c.block-last.ensures ∙ c.loop-at.invariant.1
+
+chained : (c : After-chain_last-z)
+    → (let a = c.args in
+    c.chain_last-z.result ≡ chain (cipher a.ks) a.y (cut (plain_text a.opening (cipher a.ks) 3 (front_of false a.base) 1 a.text.now)))
+chained c =
+    let a = c.args in
+    passed_chained (cipher a.ks) (cipher-length a.ks) 3 (front_of false a.base) a.opening a.written c.loop-at.invariant.2
+    (omega (arith, c.loop-at-test.false)) c.halves_from-h.ensures (pad-is c) c.block.ensures c.chain_last-z.ensures
+
+pub loop-at-init : goal.loop-at-init
+loop-at-init c =
+    let serves = c.start_at-s.ensures in
+    let a = c.args in (
+      serves,
+      c.encrypt_from-pad.ensures ∙ serves.pads 1 refl,
+      passed_start (cipher a.ks) (cipher-length a.ks) 3 (front_of false a.base) a.opening a.written _ a.text.now a.out.now,
+    )
+
+pub loop-at-preserved : goal.loop-at-preserved
+loop-at-preserved c =
+    let a = c.args in
+    let l = c.loop-at in
+    let serves = c.renewed-v.ensures in
+    let both = c.pass_block-both.ensures in (
+      serves,
+      both.other_value ∙ serves.pads (l.k + 1) refl,
+      passed_block (cipher a.ks) (cipher-length a.ks) 3 (front_of false a.base) a.opening a.written l.invariant.2 c.requires.2
+          (omega (arith, c.loop-at-test.true)) l.invariant.1 both.one_value both.out_after,
+    )
+
+pub returns-then-not-written-clause-value : goal.returns-then-not-written-clause-value
+returns-then-not-written-clause-value c = chained (goal.at.returns-then-not-written-clause-value c).After-chain_last-z
+
+pub returns-clause-value : goal.returns-clause-value
+returns-clause-value c = chained (goal.at.returns-clause-value c).After-chain_last-z
+
+pub returns-clause-out_after : goal.returns-clause-out_after
+returns-clause-out_after c =
+    let a = c.args in
+    passed-written (cipher a.ks) (cipher-length a.ks) 3 (front_of false a.base) a.opening a.written c.if-not-written.false
+    c.loop-at.invariant.2 c.requires.2 (omega (arith, c.loop-at-test.false)) (pad-is (goal.at.returns-clause-out_after c).After-chain_last-z) c.put_last.ensures

@@ -1,0 +1,22 @@
+-- `modes::short::open_short` meets its contract: the pass keeps the pads, the tag decides, and then the sum of the ciphertext and the pads is written.
+-- Assumes nothing.
+use mathlib.Core.Bool.{false}
+use native.Mathlib.Omega.{arith}
+use Rattle.aes.specs.Cipher.{cipher}
+use Rattle.aes.proofs.Laws.{cipher-length}
+use Rattle.modes.specs.Counter.{ctr, front_of}
+use Rattle.modes.specs.Within.{short_max}
+use Rattle.modes.proofs.Numbers.{answer_passed}
+use Rattle.modes.proofs.CcmShort.{short-number, short-put}
+use Rattle.modes.proofs.short.open_short.Goals as goal
+
+pub returns : goal.returns
+returns c =
+    let a = c.args in
+    let F = cipher a.ks.now in
+    let front = front_of false a.base in
+    answer_passed (ctr F 3 front 1 a.c.now) a.out.now
+    (short-number F (cipher-length a.ks.now) front a.c.now a.tag.now a.y c.pass-z.ensures.value c.requires.3 c.xor_blocks-right.ensures
+    c.tag_number-number.ensures)
+    (omega (arith, c.if-number-gt0.false))
+    (short-put F (cipher-length a.ks.now) front a.c.now short_max c.requires.1 c.pass-z.ensures.out_after a.out.now c.put_sum.ensures)
