@@ -1,4 +1,6 @@
 // NIST's cases, run on the unit. specs/Line.antt says what a line comes to, specs/Run.antt what the text of an input is.
+#![tactic(auto)]
+
 mod calls;
 mod lines;
 mod strings;
