@@ -27,7 +27,7 @@ pub returns-then-number-ne0 : goal.returns-then-number-ne0
 returns-then-number-ne0 c =
     let s = c.args in
     c.loop-i.invariant.2
-    ∙ rounds-stop (way s.there) s.key.now c.loop-i.block _ _ c.one_round-number.ensures block_rounds c.loop-i.i c.loop-i-test.true c.if-number-ne0.true
+    ∙ rounds-stop (way s.there) s.key.now c.loop-i.block _ _ c.one_round-number.ensures block_rounds c.loop-i.i (omega arith) c.if-number-ne0.true
 
 pub loop-i-preserved : goal.loop-i-preserved
 loop-i-preserved c =
@@ -35,7 +35,7 @@ loop-i-preserved c =
       omega arith,
       omega (arith, c.one_round-number.auto.block, c.loop-i.invariant.1),
       c.loop-i.invariant.2
-          ∙ rounds_turn (way s.there) s.key.now c.loop-i.block _ _ c.one_round-number.ensures block_rounds c.loop-i.i c.loop-i-test.true c.if-number-ne0.false,
+          ∙ rounds_turn (way s.there) s.key.now c.loop-i.block _ _ c.one_round-number.ensures block_rounds c.loop-i.i (omega arith) c.if-number-ne0.false,
     )
 
 pub shape_of-block : goal.shape_of-block
