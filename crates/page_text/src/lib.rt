@@ -1,4 +1,6 @@
 // The page lister of document 01: the text of a page's fields, or `refused` and the number. specs/Listing.antt has the text.
+#![tactic(auto)]
+
 ghost use Rattle.std.specs.Prelude.{◌≡◌, ◌≤◌, length};
 ghost use Rattle.wording.specs.Writing.{Wrote};
 ghost use Rattle.page_text.specs.Listing.{lines_in, listing, listing_max, listing_answer};

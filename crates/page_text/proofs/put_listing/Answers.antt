@@ -1,0 +1,25 @@
+-- `page_text::put_listing` meets its contract: over 4,096 bytes there is no other test; else the number that reading gives decides.
+-- Assumes nothing.
+use native.Mathlib.Omega.{arith}
+use lib.Dec.{lit<}
+use lib.ListN.{replicate}
+use Rattle.wording.proofs.Wrote.{put_fits}
+use Rattle.wording.specs.Lines.{refused_line}
+use Rattle.page_text.proofs.Listing.{listing-long, listing-refused, listing-fields, refused_fits}
+use Rattle.page_text.proofs.put_listing.Goals as goal
+
+pub returns-then-input-gt-PAGE_MAX : goal.returns-then-input-gt-PAGE_MAX
+returns-then-input-gt-PAGE_MAX c =
+    rw (listing-long c.args.input.now c.if-input-gt-PAGE_MAX.true)
+    (put_fits 0 (refused_line 4) _ (omega (arith, refused_fits 4 (lit< tt), c.requires)) c.put_line.ensures)
+
+pub returns-then-number-ne0 : goal.returns-then-number-ne0
+returns-then-number-ne0 c =
+    let n = c.read-number.result in
+    rw (listing-refused c.args.input.now (replicate 14 0) c.if-input-gt-PAGE_MAX.false c.read-number.ensures c.if-number-ne0.true)
+    (put_fits 0 (refused_line n) _ (omega (arith, refused_fits n (omega (arith, c.read-number.type_inv)), c.requires)) c.put_line-then-number-ne0.ensures)
+
+pub returns : goal.returns
+returns c =
+    rw (listing-fields c.args.input.now (replicate 14 0) c.if-input-gt-PAGE_MAX.false c.read-number.ensures c.if-number-ne0.false)
+    c.put_fields.ensures
