@@ -1,6 +1,6 @@
 -- The laws of verification (specs/Laws.antt): it is opening where there is room.
 -- Assumes nothing.
-use mathlib.Core.Path.{◌≡◌, refl, sym, ap, ap₂, ◌∙◌}
+use mathlib.Core.Path.{◌≡◌, refl, sym, ap, ◌∙◌}
 use mathlib.Core.Bool.{Bool, true, false, not, ◌||◌}
 use mathlib.Core.List.{List, [], ◌∷◌, nil≢cons}
 use mathlib.Core.Option.{Option, none}

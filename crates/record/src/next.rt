@@ -33,8 +33,8 @@ pub fn seal_by(
 {
     let issued = advance(s);
     let number = issued.number;
-    let iv = iv_of(issued);
     let session = issued.session;
+    let iv = iv_of(issued);
     let r = ready_to_seal(table, name, &iv, aad, plain.len(), out.len());
     let SealReady::At(at) = r else {
         return Sealed {

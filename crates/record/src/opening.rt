@@ -99,7 +99,8 @@ fn ready_to_open(table: &[u8], r: &[u8], aad: &[u8], room: usize) -> OpenReady
         return OpenReady::Refused(6);
     };
     let u = use_at(table, at);
-    if u != mode {
+    let differs = u != mode;
+    if differs {
         return OpenReady::Refused(7);
     }
     OpenReady::At { at, mode, k, n }
@@ -131,7 +132,8 @@ pub fn open(table: &[u8], r: &[u8], aad: &[u8], out: &mut [u8], count: &mut u64)
     let OpenReady::At { at, mode, k, n } = ready else {
         return ready_number(ready);
     };
-    if open_by(key_at(table, at), r, mode, k, n, aad, out) != 0 {
+    let wrong = open_by(key_at(table, at), r, mode, k, n, aad, out) != 0;
+    if wrong {
         return 9;
     }
     *count = n as u64;
@@ -153,7 +155,8 @@ pub fn opened_by(table: &[u8], r: &[u8], aad: &[u8]) -> Opening
     let OpenReady::At { at, mode, k, n } = ready else {
         return Opening::Refused(ready_number(ready));
     };
-    if verify_by(key_at(table, at), r, mode, k, n, aad) != 0 {
+    let wrong = verify_by(key_at(table, at), r, mode, k, n, aad) != 0;
+    if wrong {
         return Opening::Refused(9);
     }
     Opening::By(at)

@@ -34,10 +34,10 @@ fn fill(u: u8, key: &[u8], name: &[u8], iv: &[u8], aad: &[u8], plain: &[u8], out
 }
 
 // The use of the row that a lookup found, 0 where there is none.
-fn use_found(table: &[u8], f: Found) -> u8
-    ensures { result ≡ use_in (row_found table.now f) }
+fn use_found(table: &[u8], f: &Found) -> u8
+    ensures { result ≡ use_in (row_found table.now f.now) }
 {
-    let Found::At(at) = f else {
+    let Found::At(at) = *f else {
         return 0;
     };
     use_at(table, at)
@@ -58,7 +58,7 @@ pub(crate) fn ready_to_seal(
         return SealReady::Refused(1);
     };
     let found = keytable::find(table, DATA_TYPE, name);
-    let u = use_found(table, found);
+    let u = use_found(table, &found);
     let iv_long = iv_size(u);
     if (name.len() == 0) | (iv.len() != iv_long) {
         return SealReady::Refused(2);
