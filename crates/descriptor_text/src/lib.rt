@@ -1,5 +1,7 @@
 // The text of a descriptor list, of a label or of a key page: the count, and a line for each descriptor that document 01's reader shows.
 // specs/Lines.antt has the text.
+#![tactic(auto)]
+
 mod line;
 mod stepping;
 

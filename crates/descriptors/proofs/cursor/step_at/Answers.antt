@@ -13,7 +13,6 @@ use Rattle.descriptors.proofs.cursor.step_at.Goals.{Else-n-eq0}
 use Rattle.descriptors.proofs.cursor.step_at.Goals as goal
 
 -- a descriptor stands at `at`: its size lies in the list
-
 module _ (c : Else-n-eq0) where
   abbrev list : List ℕ
   list = c.args.list.now

@@ -12,7 +12,6 @@ use Rattle.descriptors.proofs.label.check_label.Goals.{After-check_list_as, Else
 use Rattle.descriptors.proofs.label.check_label.Goals as goal
 
 -- what is known past each test
-
 shape : (c : Else-not-shaped) → every (label_shape c.args.label.now) ≡ true
 shape c = sym c.shaped.ensures ∙ c.if-not-shaped.false
 

@@ -11,7 +11,6 @@ use Rattle.descriptors.proofs.label.has.Goals.{Else-n-eq0}
 use Rattle.descriptors.proofs.label.has.Goals as goal
 
 -- the descriptor at `at`: its size lies in the list
-
 ended : (c : Else-n-eq0)
     → (4 ≤ c.size_at-n.result) × (c.loop-at.at + c.size_at-n.result ≤ length c.args.list.now)
 ended c = size_in _ _ _ c.size_at-n.ensures c.if-n-eq0.false

@@ -16,7 +16,6 @@ use Rattle.descriptors.proofs.list.check_list_as.Goals.{Else-n-eq0}
 use Rattle.descriptors.proofs.list.check_list_as.Goals as goal
 
 -- a descriptor stands at `at`: its size lies in the list
-
 module _ (c : Else-n-eq0) where
   abbrev list : List ℕ
   list = c.args.list.now
