@@ -1,4 +1,6 @@
 // The report over a dump of a cartridge (document 02, No. 1): its text, or `refused` and the number. specs/Report.antt has the text.
+#![tactic(auto)]
+
 mod counting;
 mod lines;
 mod reading;
