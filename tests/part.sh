@@ -138,9 +138,9 @@ in_crate() { (cd "crates/$1" && "${@:2}"); }
 # x86 PROGRAM WORD ..: runs a program for x86-64.
 x86() { ${run:+"$run"} "$@"; }
 
-# library CRATE: its static library, proved and built. archive CRATE: where that is.
+# library CRATE: its static library, proved and built for every x86-64 processor. archive CRATE: where that is.
 archive() { echo "crates/$1/out/lib$1.a"; }
-library() { must "the static library of $1 was not built" in_crate "$1" rt lib; }
+library() { must "the static library of $1 was not built" in_crate "$1" rt lib --cpu x86-64; }
 
 # build NAME: a C program, into the folder. One of tests/c is over the static library, for x86-64, and boot.c over that of the boot part, which is
 # built for it; one of tests/second is on OpenSSL's libcrypto, for this machine. A writer of lines runs for less time than more optimizing takes.
