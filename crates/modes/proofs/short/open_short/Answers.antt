@@ -18,5 +18,5 @@ returns c =
     answer_passed (ctr F 3 front 1 a.c.now) a.out.now
     (short-number F (cipher-length a.ks.now) front a.c.now a.tag.now a.y c.pass-z.ensures.value c.requires.3 c.xor_blocks-right.ensures
     c.tag_number-number.ensures)
-    (omega (arith, c.if-number-gt0.false))
+    (omega arith)
     (short-put F (cipher-length a.ks.now) front a.c.now short_max c.requires.1 c.pass-z.ensures.out_after a.out.now c.put_sum.ensures)
