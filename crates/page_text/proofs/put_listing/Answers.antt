@@ -10,7 +10,7 @@ use Rattle.page_text.proofs.put_listing.Goals as goal
 
 pub returns-then-input-gt-PAGE_MAX : goal.returns-then-input-gt-PAGE_MAX
 returns-then-input-gt-PAGE_MAX c =
-    rw (listing-long c.args.input.now c.if-input-gt-PAGE_MAX.true)
+    rw (listing-long c.args.input.now (omega (arith, c.if-input-gt-PAGE_MAX.true)))
     (put_fits 0 (refused_line 4) _ (omega (arith, refused_fits 4 (lit< tt), c.requires)) c.put_line.ensures)
 
 pub returns-then-number-ne0 : goal.returns-then-number-ne0
