@@ -23,7 +23,7 @@ use Rattle.keytable.proofs.Accepted.{length-rows_of, rows_of_more, rows_of-done}
 use Rattle.keytable.proofs.Laws.{own_row, row_for_good, row_at-number}
 use Rattle.report_text.specs.Dump.{dump_max, records_in, tail_of}
 use Rattle.report_text.specs.Opens.{opens_by}
-use Rattle.report_text.specs.Report.{record_bytes, open_line, open_lines, report_text, report_number, printed, report_room, reported_as, reported}
+use Rattle.report_text.specs.Report.{open_line, open_lines, report_text, report_number, printed, report_room, reported_as, reported}
 use Rattle.report_text.specs.Counted.{Reportable, count_lines}
 use Rattle.report_text.proofs.Dump.{lengths_add_up, records_few}
 use Rattle.report_text.proofs.Opening.{opens_few}
@@ -87,9 +87,10 @@ unfolding report_text
 text_short t d ok short =
     simp length-append (omega (
       arith,
-      length_decimal64 (length (records_in d)) (omega (arith, records_few d, short)),
-      length_decimal64 (record_bytes (records_in d)) (omega (arith, lengths_add_up d, short)),
-      length_decimal64 (length (tail_of d)) (omega (arith, lengths_add_up d, short)),
+      length_decimal64,
+      records_few d,
+      lengths_add_up d,
+      short,
       lines_short (rows_of t) (records_in d) names (omega (arith, records_few d, short)),
       length-rows_of t,
       rows_few t ok,

@@ -62,7 +62,8 @@ pub fn report(table: &[u8], dump: &[u8]) -> Reported
     let Table::Rows(rows) = keytable::check(table) else {
         return refused(1);
     };
-    if DUMP_MAX < dump.len() {
+    let longer = DUMP_MAX < dump.len();
+    if longer {
         return refused(4);
     }
     let mut bytes = [0u8; ROOM];

@@ -10,11 +10,12 @@ use Rattle.report_text.proofs.report.Goals as goal
 pub returns-in_default : goal.returns-in_default
 returns-in_default c = reported-one _ _ (broken-refused _ _ c.check.ensures c.in_default.is) ∙ c.refused.ensures
 
-pub returns-then-dump-gt-DUMP_MAX : goal.returns-then-dump-gt-DUMP_MAX
-returns-then-dump-gt-DUMP_MAX c = reported_four _ _ (rows_accepted _ _ _ c.check.ensures c.in-Rows.is) c.if-dump-gt-DUMP_MAX.true ∙ c.refused-then-dump-gt-DUMP_MAX.ensures
+pub returns-then-longer : goal.returns-then-longer
+returns-then-longer c =
+    reported_four _ _ (rows_accepted _ _ _ c.check.ensures c.in-Rows.is) c.if-longer.true ∙ c.refused-then-longer.ensures
 
 pub count-requires : goal.count-requires
-count-requires c = (rows_accepted _ _ _ c.check.ensures c.in-Rows.is, c.if-dump-gt-DUMP_MAX.false)
+count-requires c = (rows_accepted _ _ _ c.check.ensures c.in-Rows.is, omega arith)
 
 pub put_report-size-requires : goal.put_report-size-requires
 put_report-size-requires c =
@@ -22,10 +23,10 @@ put_report-size-requires c =
       accepted = rows_accepted _ _ _ c.check.ensures c.in-Rows.is;
       rows_are = rows-counted _ _ _ c.check.ensures c.in-Rows.is;
       counts = c.count.ensures;
-      short = c.if-dump-gt-DUMP_MAX.false;
+      short = omega arith;
       fits = omega arith;
     }
 
 pub returns : goal.returns
 returns c =
-    reported-done _ _ (rows_accepted _ _ _ c.check.ensures c.in-Rows.is) c.if-dump-gt-DUMP_MAX.false c.put_report-size.ensures
+    reported-done _ _ (rows_accepted _ _ _ c.check.ensures c.in-Rows.is) (omega arith) c.put_report-size.ensures
