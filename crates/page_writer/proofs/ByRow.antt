@@ -116,7 +116,7 @@ wraps_and_writes t v type identifier key list out after n m e =
         named = omega (arith, eqb-false (length identifier) 0 (or_right (not (page_list_ok list) || is_not key_size_lem key) (eqb (length identifier) 0) (none_of 1)));
         named_short = name_short identifier list (none_of 3);
         key_size = is_not-false key_size_lem key (or_right (not (page_list_ok list)) (is_not key_size_lem key)
-          (or_left (not (page_list_ok list) || is_not key_size_lem key) (eqb (length identifier) 0) (none_of 1)));
+            (or_left (not (page_list_ok list) || is_not key_size_lem key) (eqb (length identifier) 0) (none_of 1)));
       },
     )
   where
