@@ -42,7 +42,8 @@ pub fn load(table: &[u8], p: &[u8], out: &mut [u8], fields: &mut [u64; FIELD_COU
         return 5;
     }
     let loaded = load_part(table, algorithm_in(p), format_in(p), key_part(p), out);
-    if loaded != 0 {
+    let refused = loaded != 0;
+    if refused {
         return loaded;
     }
     *fields = fields_of(p);

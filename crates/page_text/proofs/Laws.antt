@@ -36,11 +36,13 @@ unfolding listing listing_number decimal digits_within
 reserved_listed p short h = rw (le-ltb page_max (length p) short, reserved-number p h)
 
 pub example_listed : ExampleListed
-unfolding listing listing_number field_lines page_read_number page_ok fields_ok part_broken part_refused part_long split_ok rises_from unreserved split split_by size_of size_said all decimal digits_within
+unfolding listing listing_number field_lines page_read_number page_ok fields_ok part_broken part_refused part_long split_ok rises_from unreserved split
+    split_by size_of size_said all decimal digits_within
 example_listed = refl
 
 pub wrong_type_listed : WrongTypeListed
-unfolding listing listing_number field_lines page_read_number page_ok fields_ok part_broken part_refused part_long split_ok rises_from unreserved split split_by size_of size_said all decimal digits_within
+unfolding listing listing_number field_lines page_read_number page_ok fields_ok part_broken part_refused part_long split_ok rises_from unreserved split
+    split_by size_of size_said all decimal digits_within
 wrong_type_listed = (refl, refl)
 
 pub text_room : TextRoom

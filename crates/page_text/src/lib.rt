@@ -49,7 +49,8 @@ fn put_listing(input: &[u8], out: &mut [u8]) -> usize
     }
     let mut fields = [0u64; FIELD_COUNT];
     let number = keypage::reading::read(input, &mut fields);
-    if number != 0 {
+    let refused = number != 0;
+    if refused {
         return put_line(out, 0, b"refused", number as u64);
     }
     put_fields(out, fields)

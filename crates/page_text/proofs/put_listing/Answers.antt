@@ -13,13 +13,13 @@ returns-then-input-gt-PAGE_MAX c =
     rw (listing-long c.args.input.now (omega (arith, c.if-input-gt-PAGE_MAX.true)))
     (put_fits 0 (refused_line 4) _ (omega (arith, refused_fits 4 (lit< tt), c.requires)) c.put_line.ensures)
 
-pub returns-then-number-ne0 : goal.returns-then-number-ne0
-returns-then-number-ne0 c =
+pub returns-then-refused : goal.returns-then-refused
+returns-then-refused c =
     let n = c.read-number.result in
-    rw (listing-refused c.args.input.now (replicate 14 0) c.if-input-gt-PAGE_MAX.false c.read-number.ensures c.if-number-ne0.true)
-    (put_fits 0 (refused_line n) _ (omega (arith, refused_fits n (omega (arith, c.read-number.type_inv)), c.requires)) c.put_line-then-number-ne0.ensures)
+    rw (listing-refused c.args.input.now (replicate 14 0) c.if-input-gt-PAGE_MAX.false c.read-number.ensures c.if-refused.true)
+    (put_fits 0 (refused_line n) _ (omega (arith, refused_fits n (omega (arith, c.read-number.type_inv)), c.requires)) c.put_line-then-refused.ensures)
 
 pub returns : goal.returns
 returns c =
-    rw (listing-fields c.args.input.now (replicate 14 0) c.if-input-gt-PAGE_MAX.false c.read-number.ensures c.if-number-ne0.false)
+    rw (listing-fields c.args.input.now (replicate 14 0) c.if-input-gt-PAGE_MAX.false c.read-number.ensures c.if-refused.false)
     c.put_fields.ensures

@@ -65,12 +65,12 @@ load_part-loaded-requires c =
       c.if-out-lt-KEY_SIZE.false,
     )
 
-pub returns-then-loaded-ne0 : goal.returns-then-loaded-ne0
-returns-then-loaded-ne0 c =
-    let at = goal.at.returns-then-loaded-ne0 c in
+pub returns-then-refused : goal.returns-then-refused
+returns-then-refused c =
+    let at = goal.at.returns-then-refused c in
     load-refused _ _ _ _ _ (table-good at.In-Rows) (readable at.Else-number-ne0) (le-ltb _ _ c.if-out-lt-KEY_SIZE.false) _ _
     (of-its-page at.After-key_part _ c.load_part-loaded.ensures)
-    c.if-loaded-ne0.true
+    c.if-refused.true
 
 pub fields_of-requires : goal.fields_of-requires
 fields_of-requires c =
@@ -82,4 +82,4 @@ returns c =
     let at = goal.at.returns c in
     load-done _ _ _ _ _ (table-good at.In-Rows) (readable at.Else-number-ne0) (le-ltb _ _ c.if-out-lt-KEY_SIZE.false) _ _
     (of-its-page at.After-key_part _ c.load_part-loaded.ensures)
-    c.if-loaded-ne0.false _ c.fields_of.ensures
+    c.if-refused.false _ c.fields_of.ensures

@@ -61,10 +61,12 @@ pub returns-then-room-page_size : goal.returns-then-room-page_size
 returns-then-room-page_size c =
     let at = goal.at.returns-then-room-page_size c in
     let a = c.args in
-    sym (wrapping_five _ _ _ _ _ _ (whole at.Else-wrapping_broken) (permitted at.Else-wrapping_refused) (short at.Else-wrapping_long) (ap (ltb a.room) (sym (sized at.After-page_size)) ∙ lt-ltb _ _ c.if-room-page_size.true))
+    sym (wrapping_five _ _ _ _ _ _ (whole at.Else-wrapping_broken) (permitted at.Else-wrapping_refused) (short at.Else-wrapping_long)
+    (ap (ltb a.room) (sym (sized at.After-page_size)) ∙ lt-ltb _ _ c.if-room-page_size.true))
 
 pub returns : goal.returns
 returns c =
     let at = goal.at.returns c in
     let a = c.args in
-    sym (wrapping-zero _ _ _ _ _ _ (whole at.Else-wrapping_broken) (permitted at.Else-wrapping_refused) (short at.Else-wrapping_long) (ap (ltb a.room) (sym (sized at.After-page_size)) ∙ le-ltb _ _ c.if-room-page_size.false))
+    sym (wrapping-zero _ _ _ _ _ _ (whole at.Else-wrapping_broken) (permitted at.Else-wrapping_refused) (short at.Else-wrapping_long)
+    (ap (ltb a.room) (sym (sized at.After-page_size)) ∙ le-ltb _ _ c.if-room-page_size.false))

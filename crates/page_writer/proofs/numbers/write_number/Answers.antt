@@ -56,9 +56,11 @@ returns-then-room-page_size c =
 pub returns-then-not_carried : goal.returns-then-not_carried
 returns-then-not_carried c =
     let at = goal.at.returns-then-not_carried c in
-    sym (write_eight _ _ _ _ (whole at.Else-write_broken) (permitted at.Else-write_refused) (short at.Else-write_long) (roomy at.Else-room-page_size) (sym c.not_carried.ensures ∙ c.if-not_carried.true))
+    sym (write_eight _ _ _ _ (whole at.Else-write_broken) (permitted at.Else-write_refused) (short at.Else-write_long) (roomy at.Else-room-page_size)
+    (sym c.not_carried.ensures ∙ c.if-not_carried.true))
 
 pub returns : goal.returns
 returns c =
     let at = goal.at.returns c in
-    sym (write-zero _ _ _ _ (whole at.Else-write_broken) (permitted at.Else-write_refused) (short at.Else-write_long) (roomy at.Else-room-page_size) (sym c.not_carried.ensures ∙ c.if-not_carried.false))
+    sym (write-zero _ _ _ _ (whole at.Else-write_broken) (permitted at.Else-write_refused) (short at.Else-write_long) (roomy at.Else-room-page_size)
+    (sym c.not_carried.ensures ∙ c.if-not_carried.false))
