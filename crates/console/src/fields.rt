@@ -9,11 +9,7 @@ fn name_argument(rt: &HostRuntime, f: Fields, i: usize) -> Fields {
     let size = argument(rt, i, &mut word);
     let named = name_field(f, &word[..size]);
     if !named.good {
-        misused(
-            rt,
-            b"a field is name=value, each name once",
-            &word[..size],
-        );
+        misused(rt, b"a field is name=value, each name once", &word[..size]);
     }
     named
 }

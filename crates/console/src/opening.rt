@@ -17,7 +17,13 @@ fn verify_bytes(rt: &HostRuntime, table: &[u8], record: &[u8], associated: &[u8]
     }
 }
 
-fn open_or_verify(rt: &HostRuntime, table: &[u8], record: &[u8], associated: &[u8], only_verify: bool) {
+fn open_or_verify(
+    rt: &HostRuntime,
+    table: &[u8],
+    record: &[u8],
+    associated: &[u8],
+    only_verify: bool,
+) {
     if only_verify {
         verify_bytes(rt, table, record, associated);
     } else {

@@ -16,5 +16,8 @@ pub(crate) fn report(rt: &HostRuntime) {
     }
     let table_size = t.size;
     let dump_size = d.size;
-    say_reported(rt, report_text::report(&table[..table_size], &dump[..dump_size]));
+    say_reported(
+        rt,
+        report_text::report(&table[..table_size], &dump[..dump_size]),
+    );
 }

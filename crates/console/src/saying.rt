@@ -1,4 +1,5 @@
 // What is said on standard error, and what is written to standard output.
+use crate::message::Message;
 use descriptor_text::Described;
 use octets::strings::part;
 use report_text::Reported;
@@ -7,8 +8,6 @@ use std::io;
 use std::io::Print;
 use wording::meaning::meaning;
 use wording::writing::put_line;
-
-use crate::message::Message;
 
 // A word of `check-table`, a space, a number of 20 digits at most, and a newline.
 const LINE_ROOM: usize = 32;

@@ -4,7 +4,14 @@ use crate::saying::{refuse, write_out};
 use crate::taking::{take_file, take_optional, take_word};
 use octets::strings::part;
 
-fn seal_bytes(rt: &HostRuntime, table: &[u8], name: &[u8], iv: &[u8], associated: &[u8], plain: &[u8]) {
+fn seal_bytes(
+    rt: &HostRuntime,
+    table: &[u8],
+    name: &[u8],
+    iv: &[u8],
+    associated: &[u8],
+    plain: &[u8],
+) {
     let mut out = record_room();
     let number = record::sealing::seal(table, name, iv, associated, plain, &mut out);
     if number != 0 {

@@ -6,7 +6,8 @@ use crate::taking::{take_file, take_number, take_word};
 use field_words::Fields;
 use wording::decimal::Number;
 
-fn wrap_bytes(rt: &HostRuntime, 
+fn wrap_bytes(
+    rt: &HostRuntime,
     table: &[u8],
     fields: Fields,
     kind: usize,

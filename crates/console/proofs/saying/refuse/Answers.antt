@@ -1,8 +1,7 @@
 -- `console::saying::refuse` is safe and ends: the line lies within its 64 bytes.
 -- Assumes nothing.
-use Rattle.std.proofs.Common.{◌≤◌, ◌≡◌, ℕ, List, length, arith, sym}
+use Rattle.std.proofs.Common.{◌≤◌, length, arith, sym}
 use lib.Seq.{length-take-le}
-use Rattle.wording.specs.Meaning.{line_of}
 use Rattle.wording.proofs.MeaningLaws.{line_fits}
 use Rattle.console.proofs.saying.refuse.Goals as goal
 use Rattle.console.proofs.saying.refuse.Goals.{After-meaning-line}
