@@ -1,7 +1,7 @@
 /*
  * Spadeswirl: the encryption unit of a tape drive, for C and C++. Link with
- * libspadeswirl.a (`rt staticlib spadeswirl` writes it to target/staticlib, for
- * x86-64). Every layout of bytes is in docs/FORMATS.md.
+ * libspadeswirl.a (`rt lib --cpu x86-64` in crates/spadeswirl writes it to out
+ * there, for x86-64). Every layout of bytes is in docs/FORMATS.md.
  *
  * A text sealed by the row TAPE1 of a key table, with the next IV of a session,
  * and opened again:
@@ -212,7 +212,7 @@ uint8_t spadeswirl_wrap(const uint8_t *kek, size_t kek_len,
  * Unwraps a key into the first SPADESWIRL_KEY_BYTES of the output, once its
  * start value is found right. Numbers: 0; 2 for another length of KEK; 5; 8; 9.
  * A boot part that calls nothing else may link libspadeswirl_boot.a, which has
- * this call alone (`rt staticlib spadeswirl_boot`).
+ * this call alone (`rt lib --cpu x86-64` in crates/spadeswirl_boot).
  */
 uint8_t spadeswirl_unwrap(const uint8_t *kek, size_t kek_len,
                           const uint8_t *wrapped, size_t wrapped_len,

@@ -173,7 +173,7 @@ programs() {
 
 # proved NAME: the unit's program of that name, proved and built; rt runs what it has built, with nothing to read. unit NAME WORD ..: runs it.
 proved() {
-    must "the program $1 was not proved and built" in_crate "$1" rt run
+    must "the program $1 was not proved and built" in_crate "$1" rt run --cpu x86-64
 }
 unit() {
     local built=crates/$1/out/$1
