@@ -1,0 +1,43 @@
+-- The statements of specs/Laws.antt, proved.
+-- Assumes nothing.
+use mathlib.Core.Path.{◌≡◌, refl, sym, ap, ◌∙◌}
+use Prim.Native.Nat.{ℕ}
+use Rattle.std.specs.Prelude.{List, [], ◌∷◌, get_or, Result, Ok, Err}
+use Rattle.refusals.specs.Numbers.{number_of, outcome_number}
+use Rattle.refusals.specs.Laws.{NumberUnique, OutcomeUnique}
+use Rattle.refusals.specs.declared.Refusal.{Refusal}
+use Rattle.refusals.specs.declared.Refusal.TheVariants.{TableLayout, Layout, NotPermitted, PastMaximum, NoRoom, NoRow, OtherUse, WrappedLength, WrongTag, SessionSpent, CounterRunsOver}
+
+-- the answers by their numbers
+abbrev outcomes : List (Result (Unit {0}) Refusal)
+outcomes =
+    Ok tt ∷ Err TableLayout ∷ Err Layout ∷ Err NotPermitted ∷ Err PastMaximum ∷ Err NoRoom ∷ Err NoRow ∷ Err OtherUse ∷ Err WrappedLength ∷ Err WrongTag
+    ∷ Err SessionSpent ∷ Err CounterRunsOver ∷ []
+
+abbrev outcome_of : ℕ → Result (Unit {0}) Refusal
+outcome_of n = get_or outcomes n (Ok tt)
+
+of_number : (x : Result (Unit {0}) Refusal) → outcome_of (outcome_number x) ≡ x
+of_number (Ok u) = refl
+of_number (Err TableLayout) = refl
+of_number (Err Layout) = refl
+of_number (Err NotPermitted) = refl
+of_number (Err PastMaximum) = refl
+of_number (Err NoRoom) = refl
+of_number (Err NoRow) = refl
+of_number (Err OtherUse) = refl
+of_number (Err WrappedLength) = refl
+of_number (Err WrongTag) = refl
+of_number (Err SessionSpent) = refl
+of_number (Err CounterRunsOver) = refl
+
+pub outcome_unique : OutcomeUnique
+outcome_unique x y e = sym (of_number x) ∙ ap outcome_of e ∙ of_number y
+
+-- which refusal an answer has; a refusal of our choice where it has none
+abbrev refusal_in : Result (Unit {0}) Refusal → Refusal
+refusal_in (Ok u) = Layout
+refusal_in (Err e) = e
+
+pub number_unique : NumberUnique
+number_unique a b e = ap refusal_in (outcome_unique (Err a) (Err b) e)
