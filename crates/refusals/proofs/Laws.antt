@@ -3,7 +3,7 @@
 use mathlib.Core.Path.{◌≡◌, refl, sym, ap, ◌∙◌}
 use Prim.Native.Nat.{ℕ}
 use Rattle.std.specs.Prelude.{List, [], ◌∷◌, get_or, Result, Ok, Err}
-use Rattle.refusals.specs.Numbers.{number_of, outcome_number}
+use Rattle.refusals.specs.Numbers.{number_of, outcome_number, outcome_says}
 use Rattle.refusals.specs.Laws.{NumberUnique, OutcomeUnique}
 use Rattle.refusals.specs.declared.Refusal.{Refusal}
 use Rattle.refusals.specs.declared.Refusal.TheVariants.{TableLayout, Layout, NotPermitted, PastMaximum, NoRoom, NoRow, OtherUse, WrappedLength, WrongTag, SessionSpent, CounterRunsOver}
@@ -41,3 +41,15 @@ refusal_in (Err e) = e
 
 pub number_unique : NumberUnique
 number_unique a b e = ap refusal_in (outcome_unique (Err a) (Err b) e)
+
+-- no refusal has the number of an answer that is none
+not_zero : (e : Refusal) → 0 ≡ number_of e → ⊥
+not_zero e h = let z = outcome_unique (Ok tt) (Err e) h in cc
+
+-- an answer is told by its number and the values that come with 0, where those tell what is given
+pub says_same : {A : Type 0} (values : A → List ℕ) → ((a b : A) → values a ≡ values b → a ≡ b) → (x y : Result A Refusal)
+    → outcome_says values x ≡ outcome_says values y → x ≡ y
+says_same values tell (Ok a) (Ok b) e = ap Ok (tell a b (ap (λ (p : ℕ × List ℕ). p.1) e))
+says_same values tell (Ok a) (Err f) e = absurd (not_zero f (ap (λ (p : ℕ × List ℕ). p.0) e))
+says_same values tell (Err d) (Ok b) e = absurd (not_zero d (sym (ap (λ (p : ℕ × List ℕ). p.0) e)))
+says_same values tell (Err d) (Err f) e = ap Err (number_unique d f (ap (λ (p : ℕ × List ℕ). p.0) e))
