@@ -5,13 +5,13 @@ ghost use Rattle.aes_fast.specs.Halves.{columns_of};
 ghost use Rattle.aes_fast.specs.FourWords.{columns_in};
 ghost use Rattle.aes_fast.specs.ThreeWords.{columns_held};
 
-use crate::Tables;
 use crate::four_words::{FourWords, four_words_from, four_words_of};
 use crate::halves::{Both, Halves, add_halves, from_columns, halves_of};
 use crate::three_words::{
     ThreeWords, halves_held, three_words_from, three_words_of, three_words_with,
 };
-use aes::{LAST_ROUND, MIDDLE_ROUNDS, RoundKeys};
+use crate::{Keyed, Tables};
+use aes::{LAST_ROUND, MIDDLE_ROUNDS};
 
 fn mixed_column(t: &Tables, a: u64, b: u64, c: u64, d: u64) -> u32
     ensures { column_from result ≡ mixed_by t.now (a % 256) (b % 256) (c % 256) (d % 256) }
@@ -98,41 +98,43 @@ pub(crate) fn last_of_three(t: &Tables, s: ThreeWords, k: Halves) -> Halves
     last_round(t, halves_held(s), k)
 }
 
-// The rounds that are left after the first `done`.
-pub(crate) fn rounds_after(t: &Tables, ks: &RoundKeys, done: usize, s: Halves) -> Halves
-    requires { done ≤ 13 }
-    ensures { columns_of result ≡ later_rounds_by t.now ks.now done (columns_of s) }
-{
-    let mut x = four_words_from(s);
-    let mut i = done;
-    while i < MIDDLE_ROUNDS {
-        let u = round_of_four(t, x, four_words_of(ks[i + 1]));
-        x = u;
-        i += 1;
+impl Keyed<'_> {
+    // The rounds that are left after the first `done`.
+    pub(crate) fn rounds_after(self, done: usize, s: Halves) -> Halves
+        requires { done ≤ 13 }
+        ensures { columns_of result ≡ later_rounds_by self.entry.tables.now self.entry.keys.now done (columns_of s) }
+    {
+        let mut x = four_words_from(s);
+        let mut i = done;
+        while i < MIDDLE_ROUNDS {
+            let u = round_of_four(self.tables, x, four_words_of(self.keys[i + 1]));
+            x = u;
+            i += 1;
+        }
+        let h = from_columns(x.a, x.b, x.c, x.d);
+        last_round(self.tables, h, halves_of(self.keys[LAST_ROUND]))
     }
-    let h = from_columns(x.a, x.b, x.c, x.d);
-    last_round(t, h, halves_of(ks[LAST_ROUND]))
-}
 
-// Rounds 3 to 14 of two states side by side: neither waits for the other.
-pub(crate) fn rounds_after_two(t: &Tables, ks: &RoundKeys, s: Both) -> Both
-    ensures one_value { columns_of result.one ≡ later_rounds_by t.now ks.now 2 (columns_of s.one) }
-    ensures other_value { columns_of result.other ≡ later_rounds_by t.now ks.now 2 (columns_of s.other) }
-{
-    let mut x = three_words_from(s.one);
-    let mut y = three_words_from(s.other);
-    let mut i: usize = 2;
-    while i < MIDDLE_ROUNDS {
-        let k = three_words_of(ks[i + 1]);
-        let u = round_of_three(t, x, k);
-        let v = round_of_three(t, y, k);
-        x = u;
-        y = v;
-        i += 1;
-    }
-    let k = halves_of(ks[LAST_ROUND]);
-    Both {
-        one: last_of_three(t, x, k),
-        other: last_of_three(t, y, k),
+    // Rounds 3 to 14 of two states side by side: neither waits for the other.
+    pub(crate) fn rounds_after_two(self, s: Both) -> Both
+        ensures one_value { columns_of result.one ≡ later_rounds_by self.entry.tables.now self.entry.keys.now 2 (columns_of s.one) }
+        ensures other_value { columns_of result.other ≡ later_rounds_by self.entry.tables.now self.entry.keys.now 2 (columns_of s.other) }
+    {
+        let mut x = three_words_from(s.one);
+        let mut y = three_words_from(s.other);
+        let mut i: usize = 2;
+        while i < MIDDLE_ROUNDS {
+            let k = three_words_of(self.keys[i + 1]);
+            let u = round_of_three(self.tables, x, k);
+            let v = round_of_three(self.tables, y, k);
+            x = u;
+            y = v;
+            i += 1;
+        }
+        let k = halves_of(self.keys[LAST_ROUND]);
+        Both {
+            one: last_of_three(self.tables, x, k),
+            other: last_of_three(self.tables, y, k),
+        }
     }
 }

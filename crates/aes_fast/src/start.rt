@@ -6,11 +6,10 @@ ghost use Rattle.aes_fast.specs.ByTables.{column_from, table_entry};
 ghost use Rattle.aes_fast.specs.Halves.{columns_of};
 ghost use Rattle.aes_fast.specs.Start.{column_adds, begun_by, start_by};
 
-use crate::Tables;
 use crate::halves::{Halves, add_halves, from_columns, halves_from, halves_of};
 use crate::rounds::round_of_three;
 use crate::three_words::{halves_held, three_words_from, three_words_of};
-use aes::RoundKeys;
+use crate::{Keyed, Tables};
 use octets::strings::Block;
 
 // The last byte's key; column 0 of round 1 without what the last byte adds; round 2 without what that column adds.
@@ -40,17 +39,20 @@ fn column_adds(t: &Tables, u: u32) -> Halves
     )
 }
 
-pub fn start_of(t: &Tables, ks: &RoundKeys, b: Block) -> Start
-    ensures { result ≡ start_by t.now ks.now b }
-{
-    let s = add_halves(halves_from(b), halves_of(ks[0]));
-    let one = round_of_three(t, three_words_from(s), three_words_of(ks[1]));
-    let two = round_of_three(t, one, three_words_of(ks[2]));
-    let u = (one.first % 4294967296) as u32;
-    Start {
-        key: ks[0][3][3],
-        first: add_entry(t, u, s.second / 72057594037927936),
-        second: add_halves(halves_held(two), column_adds(t, u)),
+impl Keyed<'_> {
+    pub fn start_of(self, b: Block) -> Start
+        ensures { result ≡ start_by self.entry.tables.now self.entry.keys.now b }
+    {
+        let t = self.tables;
+        let s = add_halves(halves_from(b), halves_of(self.keys[0]));
+        let one = round_of_three(t, three_words_from(s), three_words_of(self.keys[1]));
+        let two = round_of_three(t, one, three_words_of(self.keys[2]));
+        let u = (one.first % 4294967296) as u32;
+        Start {
+            key: self.keys[0][3][3],
+            first: add_entry(t, u, s.second / 72057594037927936),
+            second: add_halves(halves_held(two), column_adds(t, u)),
+        }
     }
 }
 

@@ -6,9 +6,8 @@ ghost use Rattle.octets.specs.Running.{add_from, absorb, close};
 ghost use Rattle.aes_fast.specs.ByTables.{cipher_by};
 ghost use Rattle.aes_fast.specs.Laws.{Ciphered};
 
-use aes::RoundKeys;
+use aes_fast::Keyed;
 use aes_fast::halves::{block, halves_at};
-use aes_fast::{Tables, encrypt};
 use octets::strings::{Block, xor_blocks};
 
 // A part that stays within the block, added from place k on.
@@ -26,15 +25,15 @@ fn add_bytes(k: usize, y: Block, part: &[u8]) -> Block
 }
 
 // A part from the start of a block: whole blocks as blocks, and then the rest.
-fn absorb_blocks(t: &Tables, ks: &RoundKeys, y: Block, part: &[u8]) -> Block
-    ensures { result ≡ absorb (cipher_by t.now ks.now) 0 y part.now }
+fn absorb_blocks(cipher: Keyed, y: Block, part: &[u8]) -> Block
+    ensures { result ≡ absorb (cipher_by cipher.entry.tables.now cipher.entry.keys.now) 0 y part.now }
 {
     let n = part.len();
     let mut x = y;
     let mut at = 0;
     while 16 <= n - at {
         let b = block(halves_at(part, at));
-        let u = encrypt(t, ks, xor_blocks(x, b));
+        let u = cipher.encrypt(xor_blocks(x, b));
         x = u;
         at += 16;
     }
@@ -42,27 +41,27 @@ fn absorb_blocks(t: &Tables, ks: &RoundKeys, y: Block, part: &[u8]) -> Block
 }
 
 // A part of any length, from place k of a block: what fills that block, and the rest from the start of the next.
-pub fn absorb(t: &Tables, ks: &RoundKeys, k: usize, y: Block, part: &[u8]) -> Block
-    ensures { Ciphered t.now ks.now (λ f. absorb f (k % 16) y part.now) result }
+pub fn absorb(cipher: Keyed, k: usize, y: Block, part: &[u8]) -> Block
+    ensures { Ciphered cipher.entry.tables.now cipher.entry.keys.now (λ f. absorb f (k % 16) y part.now) result }
 {
     let place = k % 16;
     if place == 0 {
-        return absorb_blocks(t, ks, y, part);
+        return absorb_blocks(cipher, y, part);
     }
     let room = 16 - place;
     if part.len() < room {
         return add_bytes(place, y, part);
     }
-    let x = encrypt(t, ks, add_bytes(place, y, &part[..room]));
-    absorb_blocks(t, ks, x, &part[room..])
+    let x = cipher.encrypt(add_bytes(place, y, &part[..room]));
+    absorb_blocks(cipher, x, &part[room..])
 }
 
 // A block that has begun is filled with zeros.
-pub fn close(t: &Tables, ks: &RoundKeys, k: usize, y: Block) -> Block
-    ensures { Ciphered t.now ks.now (λ f. close f (k % 16) y) result }
+pub fn close(cipher: Keyed, k: usize, y: Block) -> Block
+    ensures { Ciphered cipher.entry.tables.now cipher.entry.keys.now (λ f. close f (k % 16) y) result }
 {
     if k % 16 == 0 {
         return y;
     }
-    encrypt(t, ks, y)
+    cipher.encrypt(y)
 }

@@ -19,29 +19,29 @@ use Rattle.cbc_mac.proofs.absorb.Goals as goal
 -- the state is a block of bytes
 
 state : (c : Start) → IsBlock c.args.y
-state c = record { size = c.well_formed.1.1.1.0.1.0.1; bytes = array_bytes 16 c.args.y _ c.well_formed.1.1.1.0 }
+state c = record { size = c.well_formed.1.1.0.1.0.1; bytes = array_bytes 16 c.args.y _ c.well_formed.1.1.0 }
 
 pub returns-then-place-eq0 : goal.returns-then-place-eq0
 returns-then-place-eq0 c =
     let a = c.args in
-    absorb_ciphered a.t.now a.ks.now a.y (state (goal.at.returns-then-place-eq0 c).Start) (a.k % 16) a.part.now (record { byte = λ k. omega (arith, c.type_inv.part k) })
+    absorb_ciphered a.cipher.tables.now a.cipher.keys.now a.y (state (goal.at.returns-then-place-eq0 c).Start) (a.k % 16) a.part.now (record { byte = λ k. omega (arith, c.type_inv.part k) })
     (c.absorb_blocks.ensures
-    ∙ ap (λ (k : ℕ). absorb (cipher_by a.t.now a.ks.now) k a.y a.part.now) (sym c.if-place-eq0.true))
+    ∙ ap (λ (k : ℕ). absorb (cipher_by a.cipher.tables.now a.cipher.keys.now) k a.y a.part.now) (sym c.if-place-eq0.true))
 
 pub returns-then-part-room : goal.returns-then-part-room
 returns-then-part-room c =
     let a = c.args in
-    let f = cipher_by a.t.now a.ks.now in
-    absorb_ciphered a.t.now a.ks.now a.y (state (goal.at.returns-then-part-room c).Start) (a.k % 16) a.part.now (record { byte = λ k. omega (arith, c.type_inv.part k) })
+    let f = cipher_by a.cipher.tables.now a.cipher.keys.now in
+    absorb_ciphered a.cipher.tables.now a.cipher.keys.now a.y (state (goal.at.returns-then-part-room c).Start) (a.k % 16) a.part.now (record { byte = λ k. omega (arith, c.type_inv.part k) })
     (c.add_bytes.ensures ∙ sym (absorb_within f (a.k % 16) a.y a.part.now (state (goal.at.returns-then-part-room c).Start).size (omega arith)))
 
 pub returns : goal.returns
 returns c =
     let a = c.args in
-    let f = cipher_by a.t.now a.ks.now in
+    let f = cipher_by a.cipher.tables.now a.cipher.keys.now in
     let n = 16 - a.k % 16 in
     let head = take n a.part.now in
-    absorb_ciphered a.t.now a.ks.now a.y (state (goal.at.returns c).Start) (a.k % 16) a.part.now (record { byte = λ k. omega (arith, c.type_inv.part k) })
+    absorb_ciphered a.cipher.tables.now a.cipher.keys.now a.y (state (goal.at.returns c).Start) (a.k % 16) a.part.now (record { byte = λ k. omega (arith, c.type_inv.part k) })
     (c.absorb_blocks-2.ensures
     ∙ ap₂ (absorb f 0)
     (c.encrypt-x.ensures.by-tables

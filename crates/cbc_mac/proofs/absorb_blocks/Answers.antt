@@ -14,13 +14,13 @@ use Rattle.aes_fast.proofs.Laws.{block_at-whole}
 use Rattle.cbc_mac.proofs.absorb_blocks.Goals as goal
 
 pub loop-at-init : goal.loop-at-init
-loop-at-init c = (omega arith, c.well_formed.1.1.0.1.0.1, refl)
+loop-at-init c = (omega arith, c.well_formed.1.0.1.0.1, refl)
 
 pub loop-at-preserved : goal.loop-at-preserved
 loop-at-preserved c =
     let l = c.loop-at in
     let a = c.args in
-    let f = cipher_by a.t.now a.ks.now in (
+    let f = cipher_by a.cipher.tables.now a.cipher.keys.now in (
       omega arith,
       omega arith,
       ap (λ (x : List ℕ). absorb f 0 x (drop (l.at + 16) a.part.now))
@@ -36,5 +36,5 @@ returns c =
     let left = drop l.at a.part.now in
     c.add_bytes.ensures
     ∙ ap (add_from 0 l.x) (rest_all a.part.now l.at)
-    ∙ sym (absorb_within (cipher_by a.t.now a.ks.now) 0 l.x left l.invariant.1 (omega (arith, length-drop l.at a.part.now)))
+    ∙ sym (absorb_within (cipher_by a.cipher.tables.now a.cipher.keys.now) 0 l.x left l.invariant.1 (omega (arith, length-drop l.at a.part.now)))
     ∙ l.invariant.2

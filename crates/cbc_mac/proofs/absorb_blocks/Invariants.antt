@@ -7,7 +7,7 @@ use Rattle.cbc_mac.proofs.absorb_blocks.Given as goal
 
 abbrev pub invariant-loop-at : goal.invariant-loop-at
 invariant-loop-at l =
-    (l.at ≤ length l.part) × (length l.x ≡ 16) × (absorb (cipher_by l.t l.ks) 0 l.x (drop l.at l.part) ≡ absorb (cipher_by l.t l.ks) 0 l.initial.x l.part)
+    (l.at ≤ length l.part) × (length l.x ≡ 16) × (absorb (cipher_by l.cipher.tables.now l.cipher.keys.now) 0 l.x (drop l.at l.part) ≡ absorb (cipher_by l.cipher.tables.now l.cipher.keys.now) 0 l.initial.x l.part)
 
 abbrev pub decreases-loop-at : goal.decreases-loop-at
 decreases-loop-at l = length l.part - l.at

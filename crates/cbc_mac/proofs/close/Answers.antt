@@ -11,15 +11,15 @@ use Rattle.cbc_mac.proofs.close.Goals as goal
 -- the state is a block of bytes
 
 state : (c : Start) → IsBlock c.args.y
-state c = record { size = c.well_formed.1.1.1.0.1.0.1; bytes = array_bytes 16 c.args.y _ c.well_formed.1.1.1.0 }
+state c = record { size = c.well_formed.1.1.0.1.0.1; bytes = array_bytes 16 c.args.y _ c.well_formed.1.1.0 }
 
 pub returns-then-k-eq0 : goal.returns-then-k-eq0
 returns-then-k-eq0 c =
     let a = c.args in
-    close_ciphered a.t.now a.ks.now a.y (state (goal.at.returns-then-k-eq0 c).Start) (a.k % 16) (rw (eq-eqb (a.k % 16) 0 c.if-k-eq0.true))
+    close_ciphered a.cipher.tables.now a.cipher.keys.now a.y (state (goal.at.returns-then-k-eq0 c).Start) (a.k % 16) (rw (eq-eqb (a.k % 16) 0 c.if-k-eq0.true))
 
 pub returns : goal.returns
 returns c =
     let a = c.args in
-    close_ciphered a.t.now a.ks.now a.y (state (goal.at.returns c).Start) (a.k % 16)
+    close_ciphered a.cipher.tables.now a.cipher.keys.now a.y (state (goal.at.returns c).Start) (a.k % 16)
     (rw (ne_eqb (a.k % 16) 0 c.if-k-eq0.false) c.encrypt.ensures.by-tables)

@@ -4,12 +4,12 @@ use mathlib.Core.Path.{refl, ◌∙◌}
 use Rattle.octets.proofs.Arrays.{array_bytes}
 use Rattle.aes_fast.proofs.Steps.{cipher_by_read}
 use Rattle.aes_fast.proofs.Cipher.{ciphered}
-use Rattle.aes_fast.proofs.encrypt.Goals as goal
+use Rattle.aes_fast.proofs.Keyed.encrypt.Goals as goal
 
 pub returns : goal.returns
 returns c =
     let a = c.args in
-    ciphered _ _ (array_bytes 16 a.b _ c.well_formed.1.1.0)
+    ciphered _ _ (array_bytes 16 a.b _ c.well_formed.1.0)
     (c.block.ensures
-    ∙ cipher_by_read a.t.now a.ks.now c.halves_from.result c.halves_of.result c.add_halves.result c.rounds_after.result
+    ∙ cipher_by_read a.self.tables.now a.self.keys.now c.halves_from.result c.halves_of.result c.add_halves.result c.rounds_after.result
     c.halves_from.ensures c.halves_of.ensures c.add_halves.ensures refl c.rounds_after.ensures)

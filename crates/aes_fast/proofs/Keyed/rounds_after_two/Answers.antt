@@ -5,7 +5,7 @@ use native.Mathlib.Omega.{arith}
 use lib.Dec.{lit≤}
 use Rattle.aes_fast.specs.ByTables.{later_rounds_by}
 use Rattle.aes_fast.proofs.Three.{both-none, both_more, both_last}
-use Rattle.aes_fast.proofs.rounds.rounds_after_two.Goals as goal
+use Rattle.aes_fast.proofs.Keyed.rounds_after_two.Goals as goal
 
 pub loop-i-init : goal.loop-i-init
 loop-i-init c = both-none _ _ 2 _ _ (lit≤ tt)
@@ -22,8 +22,8 @@ returns c =
     let a = c.args in
     let all : l.i ≡ 13 = omega (arith, c.loop-i-test.false, l.invariant.1) in
     let both =
-    both_last a.t.now a.ks.now 2 c.three_words_from-x.result c.three_words_from-y.result l.x l.y l.i l.invariant c.halves_of-k.result _ _ all
+    both_last a.self.tables.now a.self.keys.now 2 c.three_words_from-x.result c.three_words_from-y.result l.x l.y l.i l.invariant c.halves_of-k.result _ _ all
     c.halves_of-k.ensures c.last_of_three.ensures c.last_of_three-2.ensures in record {
-      one_value = both.0 ∙ ap (later_rounds_by a.t.now a.ks.now 2) c.three_words_from-x.ensures;
-      other_value = both.1 ∙ ap (later_rounds_by a.t.now a.ks.now 2) c.three_words_from-y.ensures;
+      one_value = both.0 ∙ ap (later_rounds_by a.self.tables.now a.self.keys.now 2) c.three_words_from-x.ensures;
+      other_value = both.1 ∙ ap (later_rounds_by a.self.tables.now a.self.keys.now 2) c.three_words_from-y.ensures;
     }

@@ -8,7 +8,7 @@ use Rattle.octets.proofs.Arrays.{array_bytes}
 use Rattle.aes_fast.proofs.Steps.{cipher_by_read}
 use Rattle.aes_fast.proofs.Cipher.{ciphered}
 use Rattle.aes_fast.proofs.Three.{both-none, both_more, both_last}
-use Rattle.aes_fast.proofs.encrypt_two.Goals as goal
+use Rattle.aes_fast.proofs.Keyed.encrypt_two.Goals as goal
 
 pub loop-i-init : goal.loop-i-init
 loop-i-init c = both-none _ _ 0 _ _ (lit≤ tt)
@@ -26,12 +26,12 @@ returns c =
     let k = c.halves_of-first.result in
     let all : l.i ≡ 13 = omega (arith, c.loop-i-test.false, l.invariant.1) in
     let both =
-    both_last a.t.now a.ks.now 0 c.three_words_from-x.result c.three_words_from-y.result l.x l.y l.i l.invariant c.halves_of-k.result _ _ all
+    both_last a.self.tables.now a.self.keys.now 0 c.three_words_from-x.result c.three_words_from-y.result l.x l.y l.i l.invariant c.halves_of-k.result _ _ all
     c.halves_of-k.ensures c.last_of_three.ensures c.last_of_three-2.ensures in (
-      ciphered _ _ (array_bytes 16 a.b _ c.well_formed.1.1.0)
-          (cipher_by_read a.t.now a.ks.now c.halves_from.result k c.add_halves.result c.last_of_three.result
+      ciphered _ _ (array_bytes 16 a.b _ c.well_formed.1.0)
+          (cipher_by_read a.self.tables.now a.self.keys.now c.halves_from.result k c.add_halves.result c.last_of_three.result
           c.halves_from.ensures c.halves_of-first.ensures c.add_halves.ensures c.three_words_from-x.ensures both.0),
-      ciphered _ _ (array_bytes 16 a.c _ c.well_formed.1.1.1.0)
-          (cipher_by_read a.t.now a.ks.now c.halves_from-2.result k c.add_halves-2.result c.last_of_three-2.result
+      ciphered _ _ (array_bytes 16 a.c _ c.well_formed.1.1.0)
+          (cipher_by_read a.self.tables.now a.self.keys.now c.halves_from-2.result k c.add_halves-2.result c.last_of_three-2.result
           c.halves_from-2.ensures c.halves_of-first.ensures c.add_halves-2.ensures c.three_words_from-y.ensures both.1),
     )

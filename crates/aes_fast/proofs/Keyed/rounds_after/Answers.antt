@@ -8,7 +8,7 @@ use Rattle.aes_fast.specs.ByTables.{later_rounds_by}
 use Rattle.aes_fast.specs.Halves.{columns_of}
 use Rattle.aes_fast.specs.FourWords.{columns_in}
 use Rattle.aes_fast.proofs.Steps.{round_by_key, last_round_by_key, rounds_after-none, rounds_after_more, last_rounds}
-use Rattle.aes_fast.proofs.rounds.rounds_after.Goals as goal
+use Rattle.aes_fast.proofs.Keyed.rounds_after.Goals as goal
 
 pub loop-i-init : goal.loop-i-init
 loop-i-init c = (omega arith, c.requires, rounds_after-none _ _ c.args.done _)
@@ -27,7 +27,7 @@ returns c =
     let l = c.loop-i in
     let a = c.args in
     let all : l.i ≡ 13 = omega arith in
-    last_rounds a.t.now a.ks.now a.done l.i (columns_in c.four_words_from-x.result) (columns_of c.from_columns-h.result) _ all
-    (last_round_by_key _ _ (get_or a.ks.now 14 []) c.last_round.ensures c.halves_of.ensures)
+    last_rounds a.self.tables.now a.self.keys.now a.done l.i (columns_in c.four_words_from-x.result) (columns_of c.from_columns-h.result) _ all
+    (last_round_by_key _ _ (get_or a.self.keys.now 14 []) c.last_round.ensures c.halves_of.ensures)
     (c.from_columns-h.ensures ∙ l.invariant.2)
-    ∙ ap (later_rounds_by a.t.now a.ks.now a.done) c.four_words_from-x.ensures
+    ∙ ap (later_rounds_by a.self.tables.now a.self.keys.now a.done) c.four_words_from-x.ensures

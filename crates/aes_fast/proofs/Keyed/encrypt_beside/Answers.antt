@@ -7,7 +7,7 @@ use lib.Dec.{lit≤}
 use Rattle.aes_fast.specs.ThreeWords.{columns_held}
 use Rattle.aes_fast.proofs.Steps.{round_by_key, first_key, cipher_by_two, cipher_from_begun}
 use Rattle.aes_fast.proofs.Three.{both-none, both_more, both_last}
-use Rattle.aes_fast.proofs.encrypt_beside.Goals as goal
+use Rattle.aes_fast.proofs.Keyed.encrypt_beside.Goals as goal
 
 pub loop-i-init : goal.loop-i-init
 loop-i-init c = both-none _ _ 2 _ _ (lit≤ tt)
@@ -27,13 +27,13 @@ returns c =
     let z = c.round_of_three-x.result in
     let all : l.i ≡ 13 = omega (arith, c.loop-i-test.false, l.invariant.1) in
     let both =
-    both_last a.t.now a.ks.now 2 z c.three_words_from-y.result l.x l.y l.i l.invariant c.halves_of-k.result _ _ all
+    both_last a.self.tables.now a.self.keys.now 2 z c.three_words_from-y.result l.x l.y l.i l.invariant c.halves_of-k.result _ _ all
     c.halves_of-k.ensures c.last_of_three.ensures c.last_of_three-2.ensures in (
-      cipher_by_two a.t.now a.ks.now _ _ _ _ _
+      cipher_by_two a.self.tables.now a.self.keys.now _ _ _ _ _
           (c.three_words_from-none.ensures
-          ∙ first_key a.t.now a.ks.now a.b c.halves_of.result c.add_halves.result c.add_halves.ensures c.halves_of.ensures)
-          (round_by_key a.t.now (columns_held x) _ c.round_of_three-one.ensures c.three_words_of.ensures)
-          (round_by_key a.t.now (columns_held y) _ c.round_of_three-x.ensures c.three_words_of-2.ensures)
+          ∙ first_key a.self.tables.now a.self.keys.now a.b c.halves_of.result c.add_halves.result c.add_halves.ensures c.halves_of.ensures)
+          (round_by_key a.self.tables.now (columns_held x) _ c.round_of_three-one.ensures c.three_words_of.ensures)
+          (round_by_key a.self.tables.now (columns_held y) _ c.round_of_three-x.ensures c.three_words_of-2.ensures)
           both.0,
-      cipher_from_begun a.t.now a.ks.now a.s a.low _ _ (c.three_words_from-y.ensures ∙ c.begun.ensures) both.1,
+      cipher_from_begun a.self.tables.now a.self.keys.now a.s a.low _ _ (c.three_words_from-y.ensures ∙ c.begun.ensures) both.1,
     )
