@@ -1,6 +1,6 @@
 -- The answers of the calls: where a test fails and where none does, and what a case of the check tells of the table.
 -- Assumes nothing.
-use mathlib.Core.Path.{◌≡◌, refl, sym, ap, ◌∙◌}
+use mathlib.Core.Path.{◌≡◌, refl, sym, ap}
 use mathlib.Core.Bool.{Bool, true, false, not}
 use mathlib.Core.List.{List, [], ◌∷◌}
 use mathlib.Core.Option.{Option, some, none}
@@ -9,8 +9,10 @@ use native.Mathlib.Omega.{arith}
 use lib.Dec.{eqb, ltb}
 use lib.ListN.{length, get_or}
 use Rattle.octets.specs.Lent.{lowest}
-use Rattle.keytable.specs.declared.Table.{Table}
-use Rattle.keytable.specs.declared.Table.TheVariants.{Rows, Broken}
+use Rattle.std.specs.Prelude.{Ok, Err}
+use Rattle.refusals.specs.Numbers.{number_of}
+use Rattle.refusals.specs.declared.Refusal.{Refusal}
+use Rattle.refusals.proofs.Laws.{not_zero}
 use Rattle.octets.specs.Tests.{all}
 use Rattle.keytable.specs.Row.{row_ok, name_max, type_max, Row}
 use Rattle.keytable.specs.Table.{head_ok, table_ok, table_tests, row_count, row_parts, rows_of, distinct}
@@ -27,34 +29,22 @@ pub table_accepted : (t : List ℕ) → head_ok t ≡ true → all row_ok (row_p
 unfolding table_ok table_number table_answer
 table_accepted t h a d = rw (h, a, d)
 
--- what each case of the check's answer tells of the table
-pub rows_accepted : (t : List ℕ) (a : Table) (r : ℕ) → table_says a ≡ table_answer t → a ≡ Rows r → table_ok t ≡ true
+-- what the check's answer tells of the table
+pub rows_accepted : (t : List ℕ) (r : ℕ) → table_says (Ok r) ≡ table_answer t → table_ok t ≡ true
 unfolding table_number table_answer
-rows_accepted t a r e is = go (table_ok t) (ap (λ (x : ℕ × List ℕ). x.0) (sym (ap table_says is) ∙ e))
+rows_accepted t r e = go (table_ok t) (ap (λ (x : ℕ × List ℕ). x.0) e)
   where
     go : (ok : Bool) → 0 ≡ lowest ((1, not ok) ∷ []) → ok ≡ true
     go true h = refl
     go false h = absurd (omega arith)
 
-pub broken-refused : (t : List ℕ) (a : Table) → table_says a ≡ table_answer t → a ≡ Broken → table_ok t ≡ false
+pub broken-refused : (t : List ℕ) (e : Refusal) → table_says (Err e) ≡ table_answer t → (table_ok t ≡ false) × (number_of e ≡ 1)
 unfolding table_number table_answer
-broken-refused t a e is = go (table_ok t) (ap (λ (x : ℕ × List ℕ). x.0) (sym (ap table_says is) ∙ e))
+broken-refused t e h = go (table_ok t) (ap (λ (x : ℕ × List ℕ). x.0) h)
   where
-    go : (ok : Bool) → 1 ≡ lowest ((1, not ok) ∷ []) → ok ≡ false
-    go true h = absurd (omega arith)
-    go false h = refl
-
--- the case that an answer tells of
-abbrev pub table_in : (ℕ × List ℕ) → Table
-table_in a = case_of a.1
-  where
-    case_of : List ℕ → Table
-    case_of [] = Broken
-    case_of (r ∷ rs) = Rows r
-
-pub table_in_says : (a : Table) → table_in (table_says a) ≡ a
-table_in_says (Rows r) = refl
-table_in_says Broken = refl
+    go : (ok : Bool) → number_of e ≡ lowest ((1, not ok) ∷ []) → (ok ≡ false) × (number_of e ≡ 1)
+    go true h = absurd (not_zero e (sym h))
+    go false h = (refl, h)
 
 -- ---- the lookup as a call of its own: each number in turn
 

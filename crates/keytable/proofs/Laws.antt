@@ -11,15 +11,16 @@ use borrow.Author.Tests.{eqb-true, eq-eqb}
 use lib.Dec.{eqb}
 use lib.ListN.{length, length-append}
 use lib.Seq.{get_or-append_seam}
-use Rattle.octets.proofs.Unique.{unique, unique-by}
+use Rattle.octets.proofs.Unique.{unique}
 use Rattle.octets.specs.Lent.{when}
 use Rattle.octets.specs.Tests.{all, part_of}
 use Rattle.keytable.specs.Row.{row_size, kek_use, row_name_at, row_key_at, row_key_size, name_length, placed_name, placed_key, data_type, is_kek_type, type_fits, Row, row_in, matches}
 use Rattle.keytable.specs.Table.{row_place, head_ok, table_ok, rows, row_parts, rows_of, no_row, row_number, row_count, distinct, holders, lookup, row_for, row_at, placed_row}
-use Rattle.keytable.specs.Calls.{table_number, table_says, table_answer, find_use}
+use Rattle.keytable.specs.Calls.{table_number, table_answer, find_use}
 use Rattle.keytable.specs.Find.{found_says, place_of, found_answer, row_found}
-use Rattle.keytable.specs.declared.Found.{Found}
-use Rattle.keytable.specs.declared.Found.TheVariants.{At, Nothing, Broken}
+use Rattle.std.specs.Prelude.{Result, Ok, Err}
+use Rattle.refusals.specs.declared.Refusal.{Refusal}
+use Rattle.refusals.specs.declared.Refusal.TheVariants.{TableLayout, NoRow}
 use Rattle.keytable.specs.Laws.{MatchesExactly, NameRead, OtherLength, OtherType, DifferExactly, OneRow, AtMostOne, FindsRow}
 use Rattle.keytable.specs.Laws.{FoundRow, NumberBack, FoundNumbered, FoundKey, RowAtNumber, FindsExactly, ElseNothing, FindsBroken, RowForGood, KekByType, OwnRow}
 use Rattle.keytable.specs.Laws.{OtherRows, HoldersRow, RowMore, OtherTypeRow, KekRowMore, DataRowMore, EmptyTable}
@@ -28,8 +29,7 @@ use Rattle.octets.proofs.Tests.{length_part, part_short}
 use Rattle.keytable.proofs.Accepted.{head_total, accepted_head, accepted-distinct, length-rows_of, rows_of_more, rows_of_at, row_kept, part-kept}
 use Rattle.keytable.proofs.Lookup.{matches_both, both_match, unmatched, distinct-one, distinct_apart, apart_distinct, distinct-holders, as_list}
 use Rattle.keytable.proofs.Lookup.{as_list_injective, lookup-one, lookup-some, lookup_skips, placed_head, place_of-number, place_of-row, place_of-nothing, place_of-broken, broken_head, row_at_within}
-use Rattle.keytable.proofs.Places.{found_in, found_in_says, says_same}
-use Rattle.keytable.proofs.Calls.{table_in, table_in_says}
+use Rattle.keytable.proofs.Places.{says_same}
 
 -- ---- matches
 
@@ -106,22 +106,18 @@ own_row t i ok h =
     is ∙ ap some (sym one.is ∙ ap (row_number (rows_of t)) same_place)
 
 module _ (t : List ℕ) (type : ℕ) (name : List ℕ) (ok : table_ok t ≡ true) where
-  found : (p : ℕ) → place_of t type name ≡ At p → (row_for t type name ≡ some (row_at t p)) × (p + row_size ≤ length t)
+  found : (p : ℕ) → place_of t type name ≡ Ok p → (row_for t type name ≡ some (row_at t p)) × (p + row_size ≤ length t)
   found = place_of-row t type name (accepted_head t ok)
 
-  absent-row : place_of t type name ≡ Nothing → row_for t type name ≡ none
+  absent-row : (e : Refusal) → place_of t type name ≡ Err e → (e ≡ NoRow) × (row_for t type name ≡ none)
   absent-row = place_of-nothing t type name (accepted_head t ok)
-
-  whole : place_of t type name ≡ Broken → ⊥
-  whole e = false≢true (sym (broken_head t type name e) ∙ accepted_head t ok)
 
 pub finds-row : FindsRow
 finds-row t type name f ok e = go f (sym (says_same f (place_of t type name) e))
   where
-    go : (g : Found) → place_of t type name ≡ g → row_for t type name ≡ row_found t g
-    go (At p) is = (found t type name ok p is).0
-    go Nothing is = absent-row t type name ok is
-    go Broken is = absurd (whole t type name ok is)
+    go : (g : Result ℕ Refusal) → place_of t type name ≡ g → row_for t type name ≡ row_found t g
+    go (Ok p) is = (found t type name ok p is).0
+    go (Err e) is = (absent-row t type name ok e is).1
 
 -- ---- the place that was found
 
@@ -130,12 +126,12 @@ number_back i = omega arith
 
 pub found_numbered : FoundNumbered
 found_numbered t type name place e =
-    let (i, below, is) = place_of-number t type name place (sym (says_same (At place) (place_of t type name) (sym e))) in
+    let (i, below, is) = place_of-number t type name place (sym (says_same (Ok place) (place_of t type name) (sym e))) in
     record { below = omega (arith, below, is, length-rows_of t); is = omega (arith, is) }
 
 pub found_key : FoundKey
 found_key t type name place e =
-    let is = sym (says_same (At place) (place_of t type name) (sym e)) in
+    let is = sym (says_same (Ok place) (place_of t type name) (sym e)) in
     let (row, within) = place_of-row t type name (placed_head t type name place is) place is in
     ap (λ (x : Row). length x.row_key) (row_at_within t place within)
     ∙ length_part (part_of t place row_size) row_key_at row_key_size (omega (arith, length_part t place row_size within))
@@ -148,31 +144,29 @@ pub finds_exactly : FindsExactly
 finds_exactly t type name row ok = (to, λ e. from (place_of t type name) refl e)
   where
     to : FoundRow t type name row → row_for t type name ≡ some row
-    to h = finds-row t type name (At h.place) ok (sym h.answers) ∙ ap some h.is
+    to h = finds-row t type name (Ok h.place) ok (sym h.answers) ∙ ap some h.is
 
-    from : (f : Found) → place_of t type name ≡ f → row_for t type name ≡ some row → FoundRow t type name row
-    from (At p) given e =
+    from : (f : Result ℕ Refusal) → place_of t type name ≡ f → row_for t type name ≡ some row → FoundRow t type name row
+    from (Ok p) given e =
         let (there, inside) = found t type name ok p given in
         let is_row : row_at t p ≡ row = cc in
         record { place = p; answers = ap found_says given; is = is_row; within = inside }
-    from Nothing given e =
-        let nowhere = absent-row t type name ok given in
+    from (Err x) given e =
+        let (_, nowhere) = absent-row t type name ok x given in
         let z : ◌≡◌ {A = ℕ} 0 1 = cc in absurd (omega arith)
-    from Broken given e = absurd (whole t type name ok given)
 
 pub else-nothing : ElseNothing
-else-nothing t type name ok = (λ e. finds-row t type name Nothing ok (sym e), from (place_of t type name) refl)
+else-nothing t type name ok = (λ e. finds-row t type name (Err NoRow) ok (sym e), from (place_of t type name) refl)
   where
-    from : (f : Found) → place_of t type name ≡ f → row_for t type name ≡ none → found_answer t type name ≡ (6, [])
-    from (At p) given e =
+    from : (f : Result ℕ Refusal) → place_of t type name ≡ f → row_for t type name ≡ none → found_answer t type name ≡ (6, [])
+    from (Ok p) given e =
         let (there, inside) = found t type name ok p given in
         let z : ◌≡◌ {A = ℕ} 0 1 = cc in absurd (omega arith)
-    from Nothing given e = ap found_says given
-    from Broken given e = absurd (whole t type name ok given)
+    from (Err x) given e = ap found_says (given ∙ ap Err (absent-row t type name ok x given).0)
 
 pub finds-broken : FindsBroken
 finds-broken t type name =
-    (λ e. broken_head t type name (says_same (place_of t type name) Broken e), λ e. ap found_says (place_of-broken t type name e))
+    (λ e. broken_head t type name (says_same (place_of t type name) (Err TableLayout) e), λ e. ap found_says (place_of-broken t type name e))
 
 -- ---- other rows
 
@@ -226,10 +220,10 @@ empty-table = refl
 -- ---- one answer
 
 pub table_check_unique : TableCheckUnique
-table_check_unique t = unique-by table_says table_in table_in_says (table_answer t)
+table_check_unique t x y p q = says_same x y (p ∙ sym q)
 
 pub find_unique : FindUnique
-find_unique t type name = unique-by found_says found_in found_in_says (found_answer t type name)
+find_unique t type name x y p q = says_same x y (p ∙ sym q)
 
 pub row_at_unique : RowAtUnique
 row_at_unique t at = unique (placed_row t at)

@@ -4,6 +4,7 @@ use mathlib.Core.Path.{◌≡◌, refl, sym, ap, ap₂, ◌∙◌}
 use mathlib.Core.Bool.{Bool, true, false, ◌&&◌, not, false≢true, and-false}
 use mathlib.Core.List.{List, [], ◌∷◌, ◌++◌, map}
 use mathlib.Core.Option.{Option, some, none}
+use Rattle.std.specs.Prelude.{Ok, Err, is_err}
 use Prim.Native.Nat.{ℕ, zero, suc, ◌+◌, ◌*◌, ◌≤◌, ◌<◌}
 use native.Mathlib.Nat.{le_of_suc-le-suc, not-suc-le-zero}
 use native.Mathlib.Numerals.{add-one}
@@ -21,7 +22,8 @@ use Rattle.keytable.specs.Row.{row_size, row_name_at, name_length, name_of, Row,
 use Rattle.keytable.specs.Table.{table_head_size, row_place, head_ok, rows, row_parts, rows_of, no_row, row_number, row_count, absent, distinct, holders, lookup, row_size_at, row_at}
 use Rattle.keytable.specs.Find.{place_from, place_of}
 use Rattle.keytable.specs.Marks.{last_of_its_pair}
-use Rattle.keytable.specs.declared.Found.TheVariants.{At, Nothing, Broken}
+use Rattle.refusals.specs.declared.Refusal.{Refusal}
+use Rattle.refusals.specs.declared.Refusal.TheVariants.{TableLayout, NoRow}
 use Rattle.octets.proofs.Tests.{all_at}
 use Rattle.keytable.proofs.Accepted.{head_total, rows_of_more, rows_of-done, rows_of_at}
 
@@ -62,7 +64,7 @@ name_part s name e = ap (λ (l : List ℕ). part_of s row_name_at (length l)) (s
 -- along the rows: what is left at row i decides
 module _ (t : List ℕ) (type : ℕ) (name : List ℕ) (i : ℕ) where
   pub place_from_here : i < row_count t → matches type name (row_in (part_of t (row_place i) row_size)) ≡ true
-      → place_from (row_place i) type name (drop i (rows_of t)) ≡ At (row_place i)
+      → place_from (row_place i) type name (drop i (rows_of t)) ≡ Ok (row_place i)
   unfolding place_from
   place_from_here h e = rw (drop-cons (rows_of t) i no_row (rows_of_more t i h), rows_of_at t i h, e)
 
@@ -73,30 +75,20 @@ module _ (t : List ℕ) (type : ℕ) (name : List ℕ) (i : ℕ) where
       let next : row_place i + row_size ≡ row_place (i + 1) = omega arith in
       rw (drop-cons (rows_of t) i no_row (rows_of_more t i h), rows_of_at t i h, e, next, add-one)
 
-  pub place_from_end : row_count t ≤ i → place_from (row_place i) type name (drop i (rows_of t)) ≡ Nothing
+  pub place_from_end : row_count t ≤ i → place_from (row_place i) type name (drop i (rows_of t)) ≡ Err NoRow
   unfolding place_from
   place_from_end h = rw (drop_of_length-le (rows_of t) (rows_of-done t i h))
 
 -- there is no place exactly where no row has the type and the name
-pub place_from-absent : (at type : ℕ) (name : List ℕ) (xs : List Row) → place_from at type name xs ≡ Nothing → absent type name xs ≡ true
+pub place_from-absent : (at type : ℕ) (name : List ℕ) (xs : List Row) → is_err (place_from at type name xs) ≡ absent type name xs
 unfolding all place_from
-place_from-absent at type name [] e = refl
-place_from-absent at type name (x ∷ xs) e = go (matches type name x) (place_from-absent (at + row_size) type name xs) e
+place_from-absent at type name [] = refl
+place_from-absent at type name (x ∷ xs) = go (matches type name x) (place_from-absent (at + row_size) type name xs)
   where
-    go : (t : Bool) → (place_from (at + row_size) type name xs ≡ Nothing → absent type name xs ≡ true)
-        → when t (At at) (place_from (at + row_size) type name xs) ≡ Nothing → (not t && absent type name xs) ≡ true
-    go true ih h = cc
-    go false ih h = ih h
-
-pub place_from-present : (at type : ℕ) (name : List ℕ) (xs : List Row) → (place_from at type name xs ≡ Nothing → ⊥) → absent type name xs ≡ false
-unfolding all place_from
-place_from-present at type name [] e = absurd (e refl)
-place_from-present at type name (x ∷ xs) e = go (matches type name x) (place_from-present (at + row_size) type name xs) e
-  where
-    go : (t : Bool) → ((place_from (at + row_size) type name xs ≡ Nothing → ⊥) → absent type name xs ≡ false)
-        → (when t (At at) (place_from (at + row_size) type name xs) ≡ Nothing → ⊥) → (not t && absent type name xs) ≡ false
-    go true ih h = refl
-    go false ih h = ih h
+    go : (t : Bool) → is_err (place_from (at + row_size) type name xs) ≡ absent type name xs
+        → is_err (when t (Ok at) (place_from (at + row_size) type name xs)) ≡ (not t && absent type name xs)
+    go true ih = refl
+    go false ih = ih
 
 -- ---- distinct
 
@@ -218,7 +210,7 @@ module _ (type : ℕ) (name : List ℕ) where
   lookup_skips (x ∷ xs) ys row e = ap (when (matches type name x) (some x)) (lookup_skips xs ys row e)
 
   -- the row at the place found is the row of the type and the name, and lies within the rows
-  place-row : (n at p : ℕ) (s : List ℕ) → place_from at type name (map row_in (rows n (drop at s))) ≡ At p
+  place-row : (n at p : ℕ) (s : List ℕ) → place_from at type name (map row_in (rows n (drop at s))) ≡ Ok p
       → (lookup type name (map row_in (rows n (drop at s))) ≡ some (row_in (part_of s p row_size))) × (p + row_size ≤ at + row_size * n)
   unfolding rows place_from lookup
   place-row zero at p s e = let z : ◌≡◌ {A = ℕ} 0 1 = cc in absurd (omega arith)
@@ -229,41 +221,32 @@ module _ (type : ℕ) (name : List ℕ) where
       later = map row_in (rows n (drop (at + row_size) s))
 
       go : (t : Bool)
-          → (place_from (at + row_size) type name later ≡ At p
+          → (place_from (at + row_size) type name later ≡ Ok p
           → (lookup type name later ≡ some (row_in (part_of s p row_size))) × (p + row_size ≤ at + row_size + row_size * n))
-          → when t (At at) (place_from (at + row_size) type name later) ≡ At p
+          → when t (Ok at) (place_from (at + row_size) type name later) ≡ Ok p
           → (when t (some (row_in (part_of s at row_size))) (lookup type name later) ≡ some (row_in (part_of s p row_size))) × (p + row_size ≤ at + row_size * suc n)
       go true ih h = let here : at ≡ p = cc in (ap (λ (k : ℕ). some (row_in (part_of s k row_size))) here, omega arith)
       go false ih h = let (is, within) = ih h in (is, omega arith)
 
   -- and it is that of a row by its number
-  place-number : (at p : ℕ) (xs : List Row) → place_from at type name xs ≡ At p → (i : ℕ) × (i < length xs) × (p ≡ at + row_size * i)
+  place-number : (at p : ℕ) (xs : List Row) → place_from at type name xs ≡ Ok p → (i : ℕ) × (i < length xs) × (p ≡ at + row_size * i)
   unfolding place_from
   place-number at p [] e = let z : ◌≡◌ {A = ℕ} 0 1 = cc in absurd (omega arith)
   place-number at p (x ∷ xs) e = go (matches type name x) (place-number (at + row_size) p xs) e
     where
-      go : (t : Bool) → (place_from (at + row_size) type name xs ≡ At p → (i : ℕ) × (i < length xs) × (p ≡ at + row_size + row_size * i))
-          → when t (At at) (place_from (at + row_size) type name xs) ≡ At p → (i : ℕ) × (i < length (x ∷ xs)) × (p ≡ at + row_size * i)
+      go : (t : Bool) → (place_from (at + row_size) type name xs ≡ Ok p → (i : ℕ) × (i < length xs) × (p ≡ at + row_size + row_size * i))
+          → when t (Ok at) (place_from (at + row_size) type name xs) ≡ Ok p → (i : ℕ) × (i < length (x ∷ xs)) × (p ≡ at + row_size * i)
       go true ih h = let here : at ≡ p = cc in (0, omega arith, omega (arith, here))
       go false ih h = let (i, below, is) = ih h in (suc i, omega (arith, below), omega (arith, is))
 
-  place_none : (at : ℕ) (xs : List Row) → place_from at type name xs ≡ Nothing → lookup type name xs ≡ none
+  -- where none is found no row has both, and that is all that a lookup along rows can be refused for
+  place_none : (at : ℕ) (e : Refusal) (xs : List Row) → place_from at type name xs ≡ Err e → (e ≡ NoRow) × (lookup type name xs ≡ none)
   unfolding place_from lookup
-  place_none at [] e = refl
-  place_none at (x ∷ xs) e = go (matches type name x) (place_none (at + row_size) xs) e
+  place_none at e [] h = (cc, refl)
+  place_none at e (x ∷ xs) h = go (matches type name x) (place_none (at + row_size) e xs) h
     where
-      go : (t : Bool) → (place_from (at + row_size) type name xs ≡ Nothing → lookup type name xs ≡ none)
-          → when t (At at) (place_from (at + row_size) type name xs) ≡ Nothing → when t (some x) (lookup type name xs) ≡ none
-      go true ih h = let z : ◌≡◌ {A = ℕ} 0 1 = cc in absurd (omega arith)
-      go false ih h = ih h
-
-  -- no row of a list is broken
-  place-whole : (at : ℕ) (xs : List Row) → place_from at type name xs ≡ Broken → ⊥
-  unfolding place_from
-  place-whole at [] e = let z : ◌≡◌ {A = ℕ} 0 1 = cc in absurd (omega arith)
-  place-whole at (x ∷ xs) e = go (matches type name x) (place-whole (at + row_size) xs) e
-    where
-      go : (t : Bool) → (place_from (at + row_size) type name xs ≡ Broken → ⊥) → when t (At at) (place_from (at + row_size) type name xs) ≡ Broken → ⊥
+      go : (t : Bool) → (place_from (at + row_size) type name xs ≡ Err e → (e ≡ NoRow) × (lookup type name xs ≡ none))
+          → when t (Ok at) (place_from (at + row_size) type name xs) ≡ Err e → (e ≡ NoRow) × (when t (some x) (lookup type name xs) ≡ none)
       go true ih h = let z : ◌≡◌ {A = ℕ} 0 1 = cc in absurd (omega arith)
       go false ih h = ih h
 
@@ -283,7 +266,7 @@ row_at_within t p h = ap (λ (n : ℕ). row_in (part_of t p n)) (size_within t p
 -- ---- place_of
 
 module _ (t : List ℕ) (type : ℕ) (name : List ℕ) where
-  pub place_of-broken : head_ok t ≡ false → place_of t type name ≡ Broken
+  pub place_of-broken : head_ok t ≡ false → place_of t type name ≡ Err TableLayout
   unfolding place_of
   place_of-broken e = rw e
 
@@ -291,36 +274,36 @@ module _ (t : List ℕ) (type : ℕ) (name : List ℕ) where
   unfolding place_of
   place_of_looked e = rw e
 
-  pub broken_head : place_of t type name ≡ Broken → head_ok t ≡ false
+  pub broken_head : place_of t type name ≡ Err TableLayout → head_ok t ≡ false
   unfolding place_of
   broken_head e = go (head_ok t) e
     where
-      go : (head : Bool) → when head (place_from table_head_size type name (rows_of t)) Broken ≡ Broken → head ≡ false
-      go true h = absurd (place-whole type name table_head_size (rows_of t) h)
+      go : (head : Bool) → when head (place_from table_head_size type name (rows_of t)) (Err TableLayout) ≡ Err TableLayout → head ≡ false
+      go true h = let (other, _) = place_none type name table_head_size TableLayout (rows_of t) h in absurd (let z : ◌≡◌ {A = ℕ} 0 1 = cc in omega arith)
       go false h = refl
 
   -- a place is found in a table whose header keeps to the layout alone
-  pub placed_head : (p : ℕ) → place_of t type name ≡ At p → head_ok t ≡ true
+  pub placed_head : (p : ℕ) → place_of t type name ≡ Ok p → head_ok t ≡ true
   unfolding place_of
   placed_head p e = go (head_ok t) e
     where
-      go : (head : Bool) → when head (place_from table_head_size type name (rows_of t)) Broken ≡ At p → head ≡ true
+      go : (head : Bool) → when head (place_from table_head_size type name (rows_of t)) (Err TableLayout) ≡ Ok p → head ≡ true
       go true h = refl
       go false h = let z : ◌≡◌ {A = ℕ} 0 1 = cc in absurd (omega arith)
 
-  pub place_of-number : (p : ℕ) → place_of t type name ≡ At p → (i : ℕ) × (i < length (rows_of t)) × (p ≡ row_place i)
+  pub place_of-number : (p : ℕ) → place_of t type name ≡ Ok p → (i : ℕ) × (i < length (rows_of t)) × (p ≡ row_place i)
   place_of-number p e = place-number type name table_head_size p (rows_of t) (sym (place_of_looked (placed_head p e)) ∙ e)
 
   module _ (head : head_ok t ≡ true) where
-    pub place_of-row : (p : ℕ) → place_of t type name ≡ At p → (lookup type name (rows_of t) ≡ some (row_at t p)) × (p + row_size ≤ length t)
+    pub place_of-row : (p : ℕ) → place_of t type name ≡ Ok p → (lookup type name (rows_of t) ≡ some (row_at t p)) × (p + row_size ≤ length t)
     unfolding row_parts
     place_of-row p e =
         let (is, within) = place-row type name (row_count t) table_head_size p t (sym (place_of_looked head) ∙ e) in
         let inside : p + row_size ≤ length t = omega (arith, head_total t head) in
         (is ∙ ap some (sym (row_at_within t p inside)), inside)
 
-    pub place_of-nothing : place_of t type name ≡ Nothing → lookup type name (rows_of t) ≡ none
-    place_of-nothing e = place_none type name table_head_size (rows_of t) (sym (place_of_looked head) ∙ e)
+    pub place_of-nothing : (e : Refusal) → place_of t type name ≡ Err e → (e ≡ NoRow) × (lookup type name (rows_of t) ≡ none)
+    place_of-nothing e h = place_none type name table_head_size e (rows_of t) (sym (place_of_looked head) ∙ h)
 
 -- ---- holders
 

@@ -13,25 +13,26 @@ use Rattle.octets.proofs.Bytes.{bytes_take, bytes_drop}
 use Rattle.keytable.specs.Row.{row_size, row_key_at, row_key_size, Row, row_in, matches}
 use Rattle.keytable.specs.Table.{table_head_size, row_count, rows, row_parts, lookup, table_ok, row_for, row_at}
 use Rattle.keytable.specs.Find.{found_says, found_answer, row_found}
-use Rattle.keytable.specs.declared.Found.{Found}
-use Rattle.keytable.specs.declared.Found.TheVariants.{At, Nothing, Broken}
-use Rattle.keytable.proofs.Places.{NotAt}
+use Rattle.std.specs.Prelude.{Result, Ok, Err}
+use Rattle.refusals.specs.declared.Refusal.{Refusal}
 use Rattle.keytable.proofs.Laws.{row_for_good, finds-row}
 
--- any case of a lookup but At says that no row was found
-pub not_found : (t : List ℕ) (f : Found) → NotAt f → row_found t f ≡ none
-not_found t (At p) w = absurd (w p refl)
-not_found t Nothing w = refl
-not_found t Broken w = refl
+-- the branch of `let .. else` is told that a lookup's answer is another than a place
+abbrev pub NotAt : Result ℕ Refusal → Type 0
+NotAt f = (p : ℕ) → f ≡ Ok p → ⊥
 
-module _ (t : List ℕ) (type : ℕ) (name : List ℕ) (f : Found) (ok : table_ok t ≡ true) (e : found_says f ≡ found_answer t type name) where
+pub not_found : (t : List ℕ) (f : Result ℕ Refusal) → NotAt f → row_found t f ≡ none
+not_found t (Ok p) w = absurd (w p refl)
+not_found t (Err e) w = refl
+
+module _ (t : List ℕ) (type : ℕ) (name : List ℕ) (f : Result ℕ Refusal) (ok : table_ok t ≡ true) (e : found_says f ≡ found_answer t type name) where
   pub no_row : NotAt f → row_for t type name ≡ none
   no_row other = finds-row t type name f ok e ∙ not_found t f other
 
-  pub the_row : (p : ℕ) → f ≡ At p → row_for t type name ≡ some (row_at t p)
+  pub the_row : (p : ℕ) → f ≡ Ok p → row_for t type name ≡ some (row_at t p)
   the_row p is = finds-row t type name f ok e ∙ ap (row_found t) is
 
-  pub row-key : (p : ℕ) → f ≡ At p → length (row_at t p).row_key ≡ row_key_size
+  pub row-key : (p : ℕ) → f ≡ Ok p → length (row_at t p).row_key ≡ row_key_size
   row-key p is = (row_for_good t type name (row_at t p) ok (the_row p is)).key_size
 
 lookup_bytes : (n : ℕ) (s : List ℕ) (type : ℕ) (name : List ℕ) (row : Row) → Bytes s → lookup type name (map row_in (rows n s)) ≡ some row → Bytes row.row_key

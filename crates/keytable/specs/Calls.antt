@@ -1,12 +1,12 @@
 -- The calls of the key table: document 01's numbers ("Numbers given back"), and the values that come with 0.
 -- Assumes nothing.
-use Rattle.std.specs.Prelude.{ℕ, Bool, true, false, not, List, [], ◌∷◌, length, eqb, ltb}
+use Rattle.std.specs.Prelude.{ℕ, Bool, true, false, not, List, [], ◌∷◌, length, eqb, ltb, Result}
 use Rattle.std.proofs.Math.Option.{Option, some, none}
 use Rattle.octets.specs.Lent.{when, Tests, lowest, kept}
+use Rattle.refusals.specs.Numbers.{outcome_says}
+use Rattle.refusals.specs.declared.Refusal.{Refusal}
 use Rattle.keytable.specs.Row.{name_max, type_max, Row}
 use Rattle.keytable.specs.Table.{row_count, table_ok, row_for}
-use Rattle.keytable.specs.declared.Table.{Table}
-use Rattle.keytable.specs.declared.Table.TheVariants.{Rows, Broken}
 
 -- ---- the check: 1, "the table breaks its layout, or has more than 64 rows"
 
@@ -16,9 +16,9 @@ check_tests t = (1, not (table_ok t)) ∷ []
 unfoldable pub table_number : List ℕ → ℕ
 table_number t = lowest (check_tests t)
 
-abbrev pub table_says : Table → ℕ × List ℕ
-table_says (Rows r) = (0, r ∷ [])
-table_says Broken = (1, [])
+-- the number, and the count of rows that comes with 0
+abbrev pub table_says : Result ℕ Refusal → ℕ × List ℕ
+table_says = outcome_says (λ r. r ∷ [])
 
 unfoldable pub table_answer : List ℕ → ℕ × List ℕ
 table_answer t = (table_number t, when (table_ok t) (row_count t ∷ []) [])

@@ -1,15 +1,15 @@
 -- What the key table promises to the crates above it, as statements; proofs/Laws.antt proves each.
 -- Assumes nothing.
-use Rattle.std.specs.Prelude.{◌≡◌, ◌↔◌, Bool, true, false, List, [], ◌∷◌, ◌++◌, ℕ, ◌+◌, ◌≤◌, ◌<◌, length}
+use Rattle.std.specs.Prelude.{◌≡◌, ◌↔◌, Bool, true, false, List, [], ◌∷◌, ◌++◌, ℕ, ◌+◌, ◌≤◌, ◌<◌, length, Result}
 use Rattle.std.proofs.Math.Option.{Option, some, none}
 use Rattle.octets.specs.Lowest.{rises}
 use Rattle.octets.specs.Places.{Placed}
 use Rattle.octets.specs.Unique.{UniqueBy, Unique}
+use Rattle.refusals.specs.declared.Refusal.{Refusal}
 use Rattle.keytable.specs.Row.{row_size, row_key_size, name_max, use_max, kek_use, name_length, is_kek_type, type_fits, placed_name, placed_key, row_ok, Row, row_in, matches}
 use Rattle.keytable.specs.Table.{row_place, number_of_place, row_count, head_ok, rows_of, row_number, table_ok, distinct, holders, row_for, data_row, row_at, placed_row}
 use Rattle.keytable.specs.Calls.{check_tests, table_says, table_answer, use_tests, find_use}
 use Rattle.keytable.specs.Find.{found_says, found_answer, row_found}
-use Rattle.keytable.specs.declared.Found.{Found}
 
 -- ---- matches
 
@@ -48,7 +48,7 @@ AtMostOne = (t : List ℕ) (type : ℕ) (name : List ℕ) → table_ok t ≡ tru
 -- what a lookup found, in an accepted table, is the row of the type and the name
 abbrev pub FindsRow : Type 0
 FindsRow =
-    (t : List ℕ) (type : ℕ) (name : List ℕ) (f : Found) → table_ok t ≡ true → found_says f ≡ found_answer t type name → row_for t type name ≡ row_found t f
+    (t : List ℕ) (type : ℕ) (name : List ℕ) (f : Result ℕ Refusal) → table_ok t ≡ true → found_says f ≡ found_answer t type name → row_for t type name ≡ row_found t f
 
 -- row stands at a place that the lookup gives, within the table
 pub record FoundRow (t : List ℕ) (type : ℕ) (name : List ℕ) (row : Row) : Type 0 where

@@ -8,6 +8,7 @@ mod sizes;
 
 ghost use Rattle.std.specs.Prelude.{◌≡◌};
 ghost use Rattle.octets.specs.Places.{placed};
+ghost use Rattle.refusals.specs.Numbers.{outcome_number};
 ghost use Rattle.keytable.specs.Row.{is_kek_type, placed_name, placed_key};
 ghost use Rattle.keytable.specs.Table.{row_place, number_of_place, head_ok, row_size_at, row_at, placed_row};
 ghost use Rattle.keytable.specs.Calls.{table_says, table_answer, find_use};
@@ -15,6 +16,7 @@ ghost use Rattle.keytable.specs.Find.{found_says, found_answer};
 
 use octets::big_endian::{read8, read16};
 use octets::strings::part_in;
+use refusals::Refusal;
 use rows::{find_from, rows_differ, rows_ok};
 use sizes::{
     FIRST_ROW_AT, FORMAT_AT, HEAD_SIZE, KEK_BY_SAI, KEK_BY_VALUE, KEY_AT, KEY_SIZE, NAME_AT,
@@ -28,22 +30,6 @@ pub const DATA_TYPE: usize = 0x0000;
 // The most rows that a table may have.
 pub const ROW_MAX: usize = 64;
 
-// What checking a table finds: the number of its rows.
-#[derive(Drop)]
-pub enum Table {
-    Rows(usize),
-    Broken,
-}
-
-// What a lookup finds: the place of the row, for the crates above; it is never answered outside. Nothing is number 6; Broken is number 1, of a header that
-// breaks its layout.
-#[derive(Drop)]
-pub enum Found {
-    At(usize),
-    Nothing,
-    Broken,
-}
-
 // Whether the header keeps to the layout, and the total to its count of rows.
 fn head_ok(t: &[u8]) -> bool
     ensures { result ≡ head_ok t.now }
@@ -56,21 +42,21 @@ fn head_ok(t: &[u8]) -> bool
         & (t.len() == HEAD_SIZE + ROW_SIZE * r)
 }
 
-// Checks a table: its count of rows, or Broken, which is number 1.
-pub fn check(t: &[u8]) -> Table
+// Checks a table: its count of rows, or number 1.
+pub fn check(t: &[u8]) -> Result<usize, Refusal>
     ensures { table_says result ≡ table_answer t.now }
 {
     if !head_ok(t) {
-        return Table::Broken;
+        return Err(Refusal::TableLayout);
     }
     let r = read16(t, ROW_COUNT_AT);
     if !rows_ok(t, r) {
-        return Table::Broken;
+        return Err(Refusal::TableLayout);
     }
     if !rows_differ(t, r) {
-        return Table::Broken;
+        return Err(Refusal::TableLayout);
     }
-    Table::Rows(r)
+    Ok(r)
 }
 
 // Whether a key-encrypting key may have this type.
@@ -80,13 +66,13 @@ pub fn is_kek_type(kind: usize) -> bool
     (kind == KEK_BY_SAI) | (kind == KEK_BY_VALUE)
 }
 
-// The place of the first row with this type and this whole name, or Nothing where there is none. It is for callers that have checked the table: of the
-// layout it looks at the header alone.
-pub fn find(t: &[u8], kind: usize, name: &[u8]) -> Found
+// The place of the first row with this type and this whole name, or number 6 where there is none. It is for callers that have checked the table: of the
+// layout it looks at the header alone, and a header that breaks it is number 1.
+pub fn find(t: &[u8], kind: usize, name: &[u8]) -> Result<usize, Refusal>
     ensures { found_says result ≡ found_answer t.now kind name.now }
 {
     if !head_ok(t) {
-        return Found::Broken;
+        return Err(Refusal::TableLayout);
     }
     find_from(t, read16(t, ROW_COUNT_AT), 0, kind, name)
 }
@@ -147,26 +133,25 @@ pub fn key_at(t: &[u8], at: usize) -> &[u8]
     part_in(row_at(t, at), KEY_AT, KEY_SIZE)
 }
 
-// Stores the use of the row with this type and this whole name, and answers 0; or changes nothing, and answers 1 where the table is broken, 2 for an empty
-// name, 3 for a type over 2, 4 for a name of more than 32 bytes, or 6 where there is no such row.
-pub fn find_use(t: &[u8], kind: usize, name: &[u8], use_out: &mut u64) -> u8
-    ensures { find_use t.now kind name.now use_out.old ≡ (result, use_out.new) }
+// Stores the use of the row with this type and this whole name; or changes nothing, and is refused by 1 where the table is broken, 2 for an empty name, 3 for
+// a type over 2, 4 for a name of more than 32 bytes, or 6 where there is no such row.
+pub fn find_use(t: &[u8], kind: usize, name: &[u8], use_out: &mut u64) -> Result<(), Refusal>
+    ensures { find_use t.now kind name.now use_out.old ≡ (outcome_number result, use_out.new) }
 {
-    let Table::Rows(_) = check(t) else {
-        return 1;
-    };
-    if name.len() == 0 {
-        return 2;
+    check(t)?;
+    if name.is_empty() {
+        return Err(Refusal::Layout);
     }
     if kind > TYPE_MAX {
-        return 3;
+        return Err(Refusal::NotPermitted);
     }
     if name.len() > NAME_MAX {
-        return 4;
+        return Err(Refusal::PastMaximum);
     }
-    let Found::At(at) = find(t, kind, name) else {
-        return 6;
+    // Document 01 has a lookup's answer taken apart like this, so there is no `?` here.
+    let Ok(at) = find(t, kind, name) else {
+        return Err(Refusal::NoRow);
     };
     *use_out = use_at(t, at) as u64;
-    0
+    Ok(())
 }

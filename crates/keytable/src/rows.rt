@@ -6,9 +6,9 @@ ghost use Rattle.keytable.specs.Table.{row_place, row_count, row_parts, rows_of,
 ghost use Rattle.keytable.specs.Find.{found_says, place_from};
 ghost use Rattle.keytable.specs.Marks.{last_of_its_pair};
 
-use crate::Found;
 use crate::row::{answers_to, mark_of, name_of, row_ok, type_of};
 use crate::sizes::{HEAD_SIZE, MARK_WORDS, ROW_SIZE};
+use refusals::Refusal;
 
 // Row number i.
 fn row(t: &[u8], i: usize) -> &[u8]
@@ -36,18 +36,24 @@ pub(crate) fn rows_ok(t: &[u8], r: usize) -> bool
 }
 
 // The place of the first row from number `from` on that has this type and this name.
-pub(crate) fn find_from(t: &[u8], r: usize, from: usize, kind: usize, name: &[u8]) -> Found
+pub(crate) fn find_from(
+    t: &[u8],
+    r: usize,
+    from: usize,
+    kind: usize,
+    name: &[u8],
+) -> Result<usize, Refusal>
     requires { (length t.now ≡ row_place r) × (r ≡ row_count t.now) × (from ≤ r) }
     ensures { found_says result ≡ found_says (place_from (row_place from) kind name.now (drop from (rows_of t.now))) }
 {
     let mut i = from;
     while i < r {
         if answers_to(row(t, i), kind, name) {
-            return Found::At(HEAD_SIZE + ROW_SIZE * i);
+            return Ok(HEAD_SIZE + ROW_SIZE * i);
         }
         i += 1;
     }
-    Found::Nothing
+    Err(Refusal::NoRow)
 }
 
 // Whether no later row has row number i's type and name.
@@ -57,10 +63,7 @@ fn last_of_its_pair(t: &[u8], r: usize, i: usize) -> bool
 {
     let next = i + 1;
     let this = row(t, i);
-    let Found::Nothing = find_from(t, r, next, type_of(this), name_of(this)) else {
-        return false;
-    };
-    true
+    find_from(t, r, next, type_of(this), name_of(this)).is_err()
 }
 
 // Whether no two rows have the same type and the same name. It goes from the last row to the first: rows of one name have one mark, so a row is looked for

@@ -3,6 +3,7 @@
 use mathlib.Core.Path.{◌≡◌, refl, sym, ap, ◌∙◌}
 use Prim.Native.Nat.{ℕ}
 use Rattle.std.specs.Prelude.{List, [], ◌∷◌, get_or, Result, Ok, Err}
+use Rattle.std.specs.Result.{IsErrAnd}
 use Rattle.refusals.specs.Numbers.{number_of, outcome_number, outcome_says}
 use Rattle.refusals.specs.Laws.{NumberUnique, OutcomeUnique}
 use Rattle.refusals.specs.declared.Refusal.{Refusal}
@@ -43,7 +44,7 @@ pub number_unique : NumberUnique
 number_unique a b e = ap refusal_in (outcome_unique (Err a) (Err b) e)
 
 -- no refusal has the number of an answer that is none
-not_zero : (e : Refusal) → 0 ≡ number_of e → ⊥
+pub not_zero : (e : Refusal) → 0 ≡ number_of e → ⊥
 not_zero e h = let z = outcome_unique (Ok tt) (Err e) h in cc
 
 -- an answer is told by its number and the values that come with 0, where those tell what is given
@@ -53,3 +54,8 @@ says_same values tell (Ok a) (Ok b) e = ap Ok (tell a b (ap (λ (p : ℕ × List
 says_same values tell (Ok a) (Err f) e = absurd (not_zero f (ap (λ (p : ℕ × List ℕ). p.0) e))
 says_same values tell (Err d) (Ok b) e = absurd (not_zero d (sym (ap (λ (p : ℕ × List ℕ). p.0) e)))
 says_same values tell (Err d) (Err f) e = ap Err (number_unique d f (ap (λ (p : ℕ × List ℕ). p.0) e))
+
+-- a refusal that `?` hands on keeps its number
+pub passed_on : {A : Type 0} (r : Result A Refusal) (e : Refusal) → IsErrAnd r (λ x. x ≡ e) → outcome_number r ≡ number_of e
+passed_on (Ok a) e h = absurd h
+passed_on (Err x) e h = ap number_of h
