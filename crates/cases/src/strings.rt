@@ -33,14 +33,13 @@ pub(crate) fn read_word(word: &[u8]) -> Held
             bytes,
         };
     }
-    let number = wording::hex::read(word, &mut bytes);
-    if number != 0 {
+    let Ok(()) = wording::hex::read(word, &mut bytes) else {
         return Held {
             right: false,
             size: 0,
             bytes,
         };
-    }
+    };
     Held {
         right: true,
         size: word.len() / 2,

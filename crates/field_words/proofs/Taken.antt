@@ -4,8 +4,8 @@ use mathlib.Core.Path.{◌≡◌, refl, sym, ap, ap₂, ◌∙◌}
 use mathlib.Core.Logic.{◌⊎◌, inl, inr}
 use mathlib.Core.Bool.{Bool, true, false}
 use mathlib.Core.List.{List}
-use mathlib.Core.Option.{Option, some, none}
 use Prim.Native.Nat.{ℕ, min}
+use Rattle.std.specs.Prelude.{Option, Some, None}
 use Rattle.wording.specs.Decimal.{value_of}
 use Rattle.wording.specs.Number.{greatest, number_read}
 use Rattle.wording.proofs.NumberLaws.{number_exactly}
@@ -25,7 +25,7 @@ module _ {word : List ℕ} {i : ℕ} {digits : List ℕ} (names : Names word i d
   names_value : word_value word ≡ digits
   names_value = ap word_value names.written ∙ value-cut i digits names.listed
 
-  names_read : number_read (word_value word) ≡ some (min (value_of digits) greatest)
+  names_read : number_read (word_value word) ≡ Some (min (value_of digits) greatest)
   names_read = ap number_read names_value ∙ (number_exactly digits (min (value_of digits) greatest)).1 (names.are_digits, refl)
 
   pub name_taken : (f : Fields) → is_free f i ≡ true → name_field f word ≡ with_field f i (min (value_of digits) greatest)
@@ -52,8 +52,8 @@ took_or-spoiled f word = go (number_read (word_value word)) (is_free f i) refl r
     i = field_number word
 
     go : (o : Option ℕ) (t : Bool) → number_read (word_value word) ≡ o → is_free f i ≡ t → Took f word ⊎ (name_field f word ≡ spoiled f)
-    go none t reads e = inr (rw reads (taken_none f i))
-    go (some n) false reads e = inr (rw reads (taken_twice f i n e))
-    go (some n) true reads e =
+    go None t reads e = inr (rw reads (taken_none f i))
+    go (Some n) false reads e = inr (rw reads (taken_twice f i n e))
+    go (Some n) true reads e =
         let named : Names word i (word_value word) = parts_name word (free_below f i e) ((number_exactly (word_value word) n).0 reads).0 in
         inl record { number = i; digits = word_value word; names = named; free = e; is = name_taken named f e }

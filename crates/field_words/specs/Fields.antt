@@ -1,7 +1,6 @@
 -- What words do to a key page's fields: each names one and gives its value.
 -- Assumes nothing.
-use Rattle.std.specs.Prelude.{ℕ, Bool, true, false, not, ◌&&◌, List, [], ◌∷◌, ltb, get_or, set, replicate}
-use Rattle.std.proofs.Math.Option.{Option, some, none}
+use Rattle.std.specs.Prelude.{ℕ, Bool, true, false, not, ◌&&◌, List, [], ◌∷◌, ltb, get_or, set, replicate, Option, Some, None}
 use Rattle.octets.specs.Lent.{when}
 use Rattle.wording.specs.Number.{number_read}
 use Rattle.field_words.specs.Words.{word_value, field_name_count, field_number}
@@ -23,8 +22,8 @@ with_field f i n = record { values = set f.values i n; named = set f.named i tru
 
 -- field i with the number that was read for it
 unfoldable pub taken_as : Fields → ℕ → Option ℕ → Fields
-taken_as f i none = spoiled f
-taken_as f i (some n) = when (is_free f i) (with_field f i n) (spoiled f)
+taken_as f i None = spoiled f
+taken_as f i (Some n) = when (is_free f i) (with_field f i n) (spoiled f)
 
 -- the fields after a word more
 unfoldable pub name_field : Fields → List ℕ → Fields

@@ -10,7 +10,6 @@ ghost use Rattle.field_words.specs.Fields.{none_named, spoiled, is_free, with_fi
 
 use octets::strings::equal;
 use wording::decimal;
-use wording::decimal::Number;
 use words::{name_in, value_in};
 
 // How many fields of a page are a caller's to choose.
@@ -102,7 +101,7 @@ pub fn name_field(f: Fields, word: &[u8]) -> Fields
     ensures { result ≡ name_field f word.now }
 {
     let i = field_number(name_in(word));
-    let Number::Is(n) = decimal::read(value_in(word)) else {
+    let Some(n) = decimal::read(value_in(word)) else {
         return spoil(f);
     };
     if !is_free(f, i) {

@@ -1,7 +1,7 @@
 -- Hexadecimal digits and the bytes they make: each digit's value, and strings of them one pair at a time.
 -- Assumes nothing.
 use mathlib.Core.Path.{◌≡◌, refl, sym, ap, ◌∙◌}
-use mathlib.Core.Bool.{Bool, true, false}
+use mathlib.Core.Bool.{Bool, true, false, ◌&&◌}
 use mathlib.Core.List.{List, [], ◌∷◌, ◌++◌}
 use Prim.Native.Nat.{ℕ, zero, suc, ◌+◌, ◌-◌, ◌*◌, ◌/◌, ◌%◌, ◌≤◌, ◌<◌}
 use Prim.Native.Char.{code}
@@ -11,6 +11,7 @@ use lib.Dec.{eqb, leb, ltb}
 use lib.ListN.{length, get_or, take}
 use lib.Seq.{take-suc}
 use borrow.Author.Tests.{eqb-true, leb-true, ltb-true, ltb-false, lt-ltb, le-ltb, le-leb, lt-leb}
+use Rattle.std.specs.List.{list_all}
 use Rattle.octets.specs.Lent.{when, over}
 use Rattle.octets.specs.Tests.{all}
 use Rattle.octets.proofs.Tests.{and_left, and_right}
@@ -99,6 +100,12 @@ module _ (d : ℕ) (below : d < 16) where
       go : (t : Bool) → ltb d 10 ≡ t → Counts (digit_of capital d) d
       go true t = rw (digit_low capital d (ltb-true d 10 t)) (counts_low (ltb-true d 10 t))
       go false t = rw (digit_high capital d (ltb-false d 10 t)) (counts_high capital (ltb-false d 10 t))
+
+-- std's word for a test of every element is octets' one
+pub all_list : (p : ℕ → Bool) (s : List ℕ) → all p s ≡ list_all p s
+unfolding all
+all_list p [] = refl
+all_list p (x ∷ s) = ap (λ (t : Bool). p x && t) (all_list p s)
 
 -- ---- bytes
 

@@ -9,8 +9,7 @@ use lib.Dec.{leb}
 use lib.ListN.{length, get_or, replicate}
 use borrow.Author.Tests.{leb-true}
 use Rattle.octets.proofs.Lent.{length_over}
-use Rattle.octets.proofs.Unique.{unique-by}
-use Rattle.wording.specs.declared.meaning.Line.{Line}
+use Rattle.wording.proofs.Told.{text_unique}
 use Rattle.octets.proofs.Tests.{and_left, and_right}
 use Rattle.wording.specs.Meaning.{meanings, no_meaning, meaning_of, line_max, line_of}
 use Rattle.wording.specs.MeaningLaws.{LineFits, LineUnique}
@@ -38,5 +37,4 @@ line_fits n size bytes e = (
 )
 
 pub line_unique : LineUnique
-line_unique n =
-    unique-by (λ (l : Line). (l.size, l.bytes)) (λ (a : ℕ × List ℕ). record { size = a.0; bytes = a.1 }) (λ l. refl) (line_of (meaning_of n))
+line_unique n = text_unique (line_of (meaning_of n))

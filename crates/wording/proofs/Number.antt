@@ -3,7 +3,6 @@
 use mathlib.Core.Path.{◌≡◌, refl, sym, ap, ◌∙◌}
 use mathlib.Core.Bool.{Bool, true, false, not, and-false}
 use mathlib.Core.List.{List, [], ◌∷◌}
-use mathlib.Core.Option.{some, none}
 use Prim.Native.Nat.{ℕ, suc, ◌+◌, ◌*◌, ◌≤◌, ◌<◌, min}
 use native.Mathlib.Numerals.{add-one}
 use native.Mathlib.Omega.{arith}
@@ -11,6 +10,7 @@ use lib.Dec.{eqb, leb}
 use lib.ListN.{length, get_or, drop, drop_of_length-le}
 use lib.Seq.{drop-cons}
 use borrow.Author.Tests.{eq-eqb, ne_eqb, leb-true, leb-false}
+use Rattle.std.specs.Prelude.{Some, None}
 use Rattle.octets.specs.Tests.{all}
 use Rattle.octets.proofs.Tests.{all-stop, all_turn, all_end}
 use Rattle.wording.specs.Decimal.{is_decimal_digit, decimal_counts, value_after, value_of}
@@ -35,15 +35,15 @@ value-cut v s = go (leb v greatest) refl
 -- ---- the answers
 
 module _ (word : List ℕ) where
-  pub read_empty : length word ≡ 0 → number_read word ≡ none
+  pub read_empty : length word ≡ 0 → number_read word ≡ None
   unfolding number_read is_decimal
   read_empty e = rw (eq-eqb (length word) 0 e)
 
-  read_other : all is_decimal_digit word ≡ false → number_read word ≡ none
+  read_other : all is_decimal_digit word ≡ false → number_read word ≡ None
   unfolding number_read is_decimal
   read_other e = rw (e, and-false (not (eqb (length word) 0)))
 
-  pub read_number : (length word ≡ 0 → ⊥) → all is_decimal_digit word ≡ true → number_read word ≡ some (min (value_of word) greatest)
+  pub read_number : (length word ≡ 0 → ⊥) → all is_decimal_digit word ≡ true → number_read word ≡ Some (min (value_of word) greatest)
   unfolding number_read is_decimal
   read_number long e = rw (ne_eqb (length word) 0 long, e)
 
@@ -60,7 +60,7 @@ pub read_none : (word : List ℕ) → (length word ≡ 0 → ⊥) → ReadTo wor
 read_none word long = record { long = long; within = omega arith; small = omega arith; digits = refl; value = refl }
 
 module _ {word : List ℕ} {i v : ℕ} (r : ReadTo word i v) where
-  pub read-stop : i < length word → is_decimal_digit (get_or word i 0) ≡ false → number_read word ≡ none
+  pub read-stop : i < length word → is_decimal_digit (get_or word i 0) ≡ false → number_read word ≡ None
   read-stop h e = read_other word (r.digits ∙ all-stop is_decimal_digit word i 0 h e)
 
   pub read_turn : (d w : ℕ) → i < length word → is_decimal_digit (get_or word i 0) ≡ true → d ≡ decimal_counts (get_or word i 0) → w ≡ min (v * 10 + d) greatest
@@ -75,7 +75,7 @@ module _ {word : List ℕ} {i v : ℕ} (r : ReadTo word i v) where
         (value-cut (v * 10 + decimal_counts (get_or word i 0)) (drop (suc i) word) ∙ (rw (drop-cons word i 0 h) at r.value));
   }
 
-  pub read_end : length word ≤ i → number_read word ≡ some v
+  pub read_end : length word ≤ i → number_read word ≡ Some v
   read_end h =
       read_number word r.long (r.digits ∙ all_end is_decimal_digit word i h)
-      ∙ ap some (sym (rw (drop_of_length-le word h) at r.value) ∙ omega (arith, r.small))
+      ∙ ap Some (sym (rw (drop_of_length-le word h) at r.value) ∙ omega (arith, r.small))

@@ -3,6 +3,7 @@ pub mod Decimal
 pub mod Number
 pub mod Hex
 pub mod Lines
+pub mod ByValue
 pub mod Writing
 pub mod Laws
 pub mod Meaning

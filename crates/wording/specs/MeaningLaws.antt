@@ -2,7 +2,7 @@
 -- Assumes nothing.
 use Rattle.std.specs.Prelude.{◌≡◌, List, ℕ, ◌≤◌, length}
 use Rattle.octets.specs.Unique.{UniqueBy}
-use Rattle.wording.specs.declared.meaning.Line.{Line}
+use Rattle.wording.specs.declared.text.Text.{Text}
 use Rattle.wording.specs.Meaning.{meaning_of, line_max, line_of}
 
 -- each line lies whole within its room
@@ -11,4 +11,4 @@ LineFits = (n size : ℕ) (bytes : List ℕ) → line_of (meaning_of n) ≡ (siz
 
 -- for each number one line
 abbrev pub LineUnique : Type 0
-LineUnique = (n : ℕ) → UniqueBy (λ (l : Line). (l.size, l.bytes)) (line_of (meaning_of n))
+LineUnique = (n : ℕ) → UniqueBy (λ (l : Text line_max). (l.size, l.bytes)) (line_of (meaning_of n))

@@ -1,17 +1,10 @@
 // Decimal digits, and the number that a word of them is. specs/Number.antt says how a word is read.
 ghost use Rattle.std.specs.Prelude.{◌≡◌, ◌+◌, ◌*◌, ◌≤◌, ◌<◌, min};
 ghost use Rattle.wording.specs.Decimal.{between, is_decimal_digit, decimal_digit, decimal_counts};
-ghost use Rattle.wording.specs.Number.{greatest, number_says, number_read};
+ghost use Rattle.wording.specs.Number.{greatest, number_read};
 
 // The greatest number of 64 bits.
 const GREATEST: u64 = 18446744073709551615;
-
-// What a word is read as: No where it is no word of decimal digits.
-#[derive(Drop)]
-pub enum Number {
-    Is(u64),
-    No,
-}
 
 pub(crate) fn lies_between(c: u8, low: u8, high: u8) -> bool
     ensures { result ≡ between low high c }
@@ -44,21 +37,19 @@ fn with_digit(v: u64, d: u64) -> u64
     v * 10 + d
 }
 
-// The number that a word's digits make, and the greatest of 64 bits where that is larger.
-pub fn read(word: &[u8]) -> Number
-    ensures { number_says result ≡ number_read word.now }
+// The number that a word's digits make, and the greatest of 64 bits where that is larger; none of a word that is no word of decimal digits.
+pub fn read(word: &[u8]) -> Option<u64>
+    ensures { result ≡ number_read word.now }
 {
-    if word.len() == 0 {
-        return Number::No;
+    if word.is_empty() {
+        return None;
     }
     let mut v = 0;
-    let mut i = 0;
-    while i < word.len() {
-        if !is_decimal(word[i]) {
-            return Number::No;
+    for c in word {
+        if !is_decimal(*c) {
+            return None;
         }
-        v = with_digit(v, counts(word[i]));
-        i += 1;
+        v = with_digit(v, counts(*c));
     }
-    Number::Is(v)
+    Some(v)
 }

@@ -1,10 +1,12 @@
 // Byte strings as hexadecimal digits, two a byte, the more significant first. specs/Hex.antt says which digit is which.
 ghost use Rattle.std.specs.Prelude.{◌≡◌, ◌*◌, ◌/◌, ◌%◌, ◌≤◌, ◌<◌, length};
+ghost use Rattle.std.specs.List.{list_all};
 ghost use Rattle.octets.specs.Lent.{over};
-ghost use Rattle.octets.specs.Tests.{all};
+ghost use Rattle.refusals.specs.Numbers.{outcome_number};
 ghost use Rattle.wording.specs.Hex.{is_small_digit, is_capital_digit, is_hex_digit, digit_value, hex_byte, hex_bytes, is_hex, digit_of, hex_read};
 
 use crate::decimal::{is_decimal, lies_between};
+use refusals::Refusal;
 
 fn is_small(c: u8) -> bool
     ensures { result ≡ is_small_digit c }
@@ -47,16 +49,9 @@ fn byte_of(a: u8, b: u8) -> u8
 }
 
 fn all_digits(word: &[u8]) -> bool
-    ensures { result ≡ all is_hex_digit word.now }
+    ensures { result ≡ list_all is_hex_digit word.now }
 {
-    let mut i = 0;
-    while i < word.len() {
-        if !is_hex_digit(word[i]) {
-            return false;
-        }
-        i += 1;
-    }
-    true
+    word.iter().all(|c| is_hex_digit(*c))
 }
 
 fn is_hex(word: &[u8]) -> bool
@@ -77,19 +72,19 @@ fn fill_bytes(word: &[u8], out: &mut [u8])
     }
 }
 
-// Writes the bytes that the word's digits make over the front of out, and answers 0; or changes nothing, and answers
-// 2 where the digits are an odd number or a character is none, or 5 where out is shorter than half the word.
-pub fn read(word: &[u8], out: &mut [u8]) -> u8
-    ensures { hex_read word.now out.old ≡ (result, out.new) }
+// Writes the bytes that the word's digits make over the front of out; or changes nothing, and refuses with
+// Layout (2) where the digits are an odd number or a character is none, or NoRoom (5) where out is shorter than half the word.
+pub fn read(word: &[u8], out: &mut [u8]) -> Result<(), Refusal>
+    ensures { hex_read word.now out.old ≡ (outcome_number result, out.new) }
 {
     if !is_hex(word) {
-        return 2;
+        return Err(Refusal::Layout);
     }
     if out.len() < word.len() / 2 {
-        return 5;
+        return Err(Refusal::NoRoom);
     }
     fill_bytes(word, out);
-    0
+    Ok(())
 }
 
 // The digit of a number below 16, a letter from ten on.

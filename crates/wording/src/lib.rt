@@ -4,4 +4,5 @@
 pub mod decimal;
 pub mod hex;
 pub mod meaning;
+pub mod text;
 pub mod writing;

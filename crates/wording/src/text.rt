@@ -1,0 +1,33 @@
+// A text by value: how long it is, and its bytes with zeros after them.
+ghost use Rattle.std.specs.Prelude.{◌≡◌, ◌≤◌, take};
+ghost use Rattle.wording.specs.ByValue.{text_of};
+
+use octets::strings::put;
+
+#[derive(Clone, Copy)]
+pub struct Text<const N: usize> {
+    pub size: usize,
+    pub bytes: [u8; N],
+    pub ghost within: { size ≤ N },
+}
+
+impl<const N: usize> Text<N> {
+    // The text of these words, as far as the room reaches.
+    pub fn of(words: &[u8]) -> Self
+        ensures { text_of N words.now ≡ (result.size, result.bytes) }
+    {
+        let mut bytes = [0u8; N];
+        put(&mut bytes, words);
+        Text {
+            size: words.len().min(N),
+            bytes,
+        }
+    }
+
+    // The text itself.
+    pub fn as_bytes(&self) -> &[u8]
+        ensures { result.now ≡ take self.now.size self.now.bytes }
+    {
+        &self.bytes[..self.size]
+    }
+}
