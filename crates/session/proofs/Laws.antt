@@ -12,12 +12,16 @@ use Rattle.octets.specs.BigEndian.{be}
 use Rattle.octets.specs.Lent.{over}
 use Rattle.octets.proofs.BigEndian.{length-be}
 use Rattle.octets.proofs.Lent.{over_fits, over-whole}
-use Rattle.octets.proofs.Unique.{unique, unique-by}
+use Rattle.octets.proofs.Unique.{unique}
+use Rattle.refusals.proofs.Laws.{number_unique, outcome_unique}
+use Rattle.refusals.specs.declared.Refusal.{Refusal}
+use Rattle.std.specs.Prelude.{Result, Ok, Err}
 use Rattle.session.specs.Iv.{prefix_size, field_size, session_iv_size, with_fields, started, is_spent, iv_of, next_session}
 use Rattle.session.specs.Calls.{SessionAnswer, advance_number, advance_answer, issued_says, issue_number, issue_answer}
 use Rattle.session.specs.Laws.{SessionRun, advanced, AdvanceGives, AdvanceEnds, AdvancesDiffer, issue_before, issue_call, IssueGives, IssueEnds, IssuesDiffer, IssueRefused, SpentGives}
 use Rattle.session.specs.Laws.{near_end, LastTwo, LastTwoHeld, AdvanceTestsRise, IssueTestsRise, StartUnique, AdvanceUnique, IssueUnique}
 use Rattle.session.specs.declared.Session.{Session}
+use Rattle.session.specs.declared.Issued.{Issued}
 use Rattle.session.proofs.Calls.{advance_spent, advance-done, advance_moves, advance_live, issue_spent, issue-done, issue_moves, issue_live}
 use Rattle.session.proofs.Runs.{ended, run_at, run_ends, run_prefix, run_differs}
 
@@ -160,8 +164,18 @@ issue_tests_rise s out = refl
 pub start_unique : StartUnique
 start_unique prefix start = unique (started prefix start)
 
+not_given : (f : Refusal) → ◌≡◌ {A = Result (Unit {0}) Refusal} (Ok tt) (Err f) → ⊥
+not_given f e = cc
+
+-- what is said of an issue tells it: its number whether it was given and else for what it was refused
+issued_once : (s : Session) (x y : Result Issued Refusal) → issued_says s x ≡ issued_says s y → x ≡ y
+issued_once s (Ok a) (Ok b) e = ap (λ (t : SessionAnswer). Ok (record { iv = t.1; session = t.2 })) e
+issued_once s (Ok a) (Err f) e = absurd (not_given f (outcome_unique (Ok tt) (Err f) (ap (λ (t : SessionAnswer). t.0) e)))
+issued_once s (Err f) (Ok a) e = absurd (not_given f (outcome_unique (Ok tt) (Err f) (sym (ap (λ (t : SessionAnswer). t.0) e))))
+issued_once s (Err f) (Err g) e = ap Err (number_unique f g (ap (λ (t : SessionAnswer). t.0) e))
+
 pub advance_unique : AdvanceUnique
-advance_unique s = unique-by issued_says (λ (t : SessionAnswer). record { number = t.0; iv = t.1; session = t.2 }) (λ r. refl) (advance_answer s)
+advance_unique s x y p q = issued_once s x y (p ∙ sym q)
 
 pub issue_unique : IssueUnique
 issue_unique s out = unique (issue_answer s out)

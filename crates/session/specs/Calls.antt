@@ -1,7 +1,9 @@
 -- The calls of a session: document 01's numbers ("Numbers given back"), the bytes lent for the IV, and the session.
 -- Assumes nothing.
-use Rattle.std.specs.Prelude.{ℕ, List, [], ◌∷◌, ltb, length, replicate}
+use Rattle.std.specs.Prelude.{ℕ, List, [], ◌∷◌, ltb, length, replicate, Result, Ok, Err}
 use Rattle.octets.specs.Lent.{Tests, lowest, kept, answer}
+use Rattle.refusals.specs.Numbers.{number_of}
+use Rattle.refusals.specs.declared.Refusal.{Refusal}
 use Rattle.session.specs.Iv.{session_iv_size, started, is_spent, iv_of, next_session}
 use Rattle.session.specs.declared.Session.{Session}
 use Rattle.session.specs.declared.Issued.{Issued}
@@ -30,8 +32,10 @@ advance_number s = lowest (advance_tests s)
 unfoldable pub advance_answer : Session → SessionAnswer
 advance_answer s = (advance_number s, kept (advance_number s) (iv_of s) (replicate session_iv_size 0), session_after (advance_number s) s)
 
-abbrev pub issued_says : Issued → SessionAnswer
-issued_says r = (r.number, r.iv, r.session)
+-- of the session s: the number, the IV given, and the session after it; of a refusal zeros for the IV, and s itself
+abbrev pub issued_says : Session → Result Issued Refusal → SessionAnswer
+issued_says s (Ok r) = (0, r.iv, r.session)
+issued_says s (Err e) = (number_of e, replicate session_iv_size 0, s)
 
 -- ---- into lent bytes: 5, "output shorter than the result", then 10
 

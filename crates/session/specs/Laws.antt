@@ -121,7 +121,7 @@ abbrev pub StartUnique : Type 0
 StartUnique = (prefix : List ℕ) (start : ℕ) → Unique (started prefix start)
 
 abbrev pub AdvanceUnique : Type 0
-AdvanceUnique = (s : Session) → UniqueBy issued_says (advance_answer s)
+AdvanceUnique = (s : Session) → UniqueBy (issued_says s) (advance_answer s)
 
 abbrev pub IssueUnique : Type 0
 IssueUnique = (s : Session) (out : List ℕ) → Unique (issue_answer s out)
