@@ -13,7 +13,7 @@ use Rattle.octets.specs.Lent.{over}
 use Rattle.octets.proofs.BigEndian.{length-be}
 use Rattle.octets.proofs.Lent.{over_fits, over-whole}
 use Rattle.octets.proofs.Unique.{unique}
-use Rattle.refusals.proofs.Laws.{number_unique, outcome_unique}
+use Rattle.refusals.proofs.Laws.{number_unique, not_zero}
 use Rattle.refusals.specs.declared.Refusal.{Refusal}
 use Rattle.std.specs.Prelude.{Result, Ok, Err}
 use Rattle.session.specs.Iv.{prefix_size, field_size, session_iv_size, with_fields, started, is_spent, iv_of, next_session}
@@ -164,14 +164,11 @@ issue_tests_rise s out = refl
 pub start_unique : StartUnique
 start_unique prefix start = unique (started prefix start)
 
-not_given : (f : Refusal) → ◌≡◌ {A = Result (Unit {0}) Refusal} (Ok tt) (Err f) → ⊥
-not_given f e = cc
-
 -- what is said of an issue tells it: its number whether it was given and else for what it was refused
 issued_once : (s : Session) (x y : Result Issued Refusal) → issued_says s x ≡ issued_says s y → x ≡ y
 issued_once s (Ok a) (Ok b) e = ap (λ (t : SessionAnswer). Ok (record { iv = t.1; session = t.2 })) e
-issued_once s (Ok a) (Err f) e = absurd (not_given f (outcome_unique (Ok tt) (Err f) (ap (λ (t : SessionAnswer). t.0) e)))
-issued_once s (Err f) (Ok a) e = absurd (not_given f (outcome_unique (Ok tt) (Err f) (sym (ap (λ (t : SessionAnswer). t.0) e))))
+issued_once s (Ok a) (Err f) e = absurd (not_zero f (ap (λ (t : SessionAnswer). t.0) e))
+issued_once s (Err f) (Ok a) e = absurd (not_zero f (sym (ap (λ (t : SessionAnswer). t.0) e)))
 issued_once s (Err f) (Err g) e = ap Err (number_unique f g (ap (λ (t : SessionAnswer). t.0) e))
 
 pub advance_unique : AdvanceUnique
