@@ -90,7 +90,7 @@ unwrap_tests_rise kek w room = refl
 
 pub wraps_in_range : WrapsInRange
 wraps_in_range kek key out size long room =
-    wrap-done kek key out (wrapped kek key) _ 0 (rw (is_not_right 32 kek size, is_not_right 32 key long)) (le-ltb _ 40 room) refl (refl, refl)
+    wrap-done kek key out (rw (is_not_right 32 kek size, is_not_right 32 key long)) (le-ltb _ 40 room)
 
 pub unwraps-wrapped : UnwrapsWrapped
 unwraps-wrapped kek key out room size hk long h fits space =

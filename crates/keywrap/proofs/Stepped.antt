@@ -1,9 +1,9 @@
 -- What the code's calls make of a register is a step, and its loops the steps in order.
 -- Assumes nothing.
 use mathlib.Core.Path.{◌≡◌, ap, ◌∙◌}
-use mathlib.Core.List.{List, [], ◌∷◌, ◌++◌}
-use Prim.Native.Nat.{ℕ, suc, ◌+◌, ◌-◌, ◌<◌}
-use native.Mathlib.Numerals.{add-one}
+use mathlib.Core.List.{List, [], ◌++◌}
+use Prim.Native.Nat.{ℕ, zero, suc, ◌+◌, ◌-◌, ◌≤◌}
+use native.Mathlib.Numerals.{add-one, sub-one}
 use native.Mathlib.Omega.{arith}
 use lib.ListN.{length, get_or, set, take, drop, length-drop}
 use lib.Seq.{take_all}
@@ -13,10 +13,9 @@ use Rattle.octets.specs.Xor.{xors}
 use Rattle.octets.proofs.Values.{bytes_at_part}
 use Rattle.aes.specs.State.{State}
 use Rattle.aes.specs.Cipher.{cipher}
-use Rattle.aes.specs.KeyExpansion.{schedule}
 use Rattle.aes.specs.InvCipher.{inv_cipher}
 use Rattle.aes.proofs.Laws.{cipher-length, inv_cipher-length}
-use Rattle.keywrap.specs.Wrap.{Register, start_value, parts, register_bytes, part_at, wrap_step, wrap_steps, wrapped, unwrap_step, unwrap_steps, unwrapped}
+use Rattle.keywrap.specs.Wrap.{Register, part_at, wrap_step, wrap_steps, unwrap_step, unwrap_steps}
 
 -- ---- the halves of a block, as they are read
 
@@ -30,11 +29,11 @@ module _ (b : List ℕ) (block : length b ≡ 16) where
 -- ---- one step
 
 module _ (ks : List State) (t i : ℕ) (r : Register) (block b mask first other : List ℕ) (place : i ≡ part_at t) (masks : mask ≡ be 8 t) where
-  pub wrap_step_made : block ≡ get_or r 0 [] ++ get_or r i [] → b ≡ cipher ks block
-      → first ≡ xors (bytes_at 8 b 0) mask → other ≡ bytes_at 8 b 8 → set (set r 0 first) i other ≡ wrap_step ks t r
+  pub wrap_step_made : (a : List ℕ) → block ≡ get_or r 0 [] ++ get_or r i [] → b ≡ cipher ks block
+      → a ≡ bytes_at 8 b 0 → first ≡ xors a mask → other ≡ bytes_at 8 b 8 → set (set r 0 first) i other ≡ wrap_step ks t r
   unfolding wrap_step
-  wrap_step_made blocks ciphers firsts others =
-      let front = firsts ∙ ap (λ (l : List ℕ). xors l mask) (front_half b long) in
+  wrap_step_made a blocks ciphers halves firsts others =
+      let front = firsts ∙ ap (λ (l : List ℕ). xors l mask) (halves ∙ front_half b long) in
       let back = others ∙ back_half b long in
       rw (front, back, ciphers, blocks, masks, place)
     where
@@ -52,27 +51,14 @@ module _ (ks : List State) (t i : ℕ) (r : Register) (block b mask first other 
       long : length b ≡ 16
       long = ap length ciphers ∙ inv_cipher-length ks block
 
--- ---- from the start to the end
-
-pub wrapped_made : (kek key : List ℕ) (ks : List State) (r s : Register) (b : List ℕ) → ks ≡ schedule kek → r ≡ start_value ∷ parts 4 key
-    → s ≡ wrap_steps ks 24 r → b ≡ register_bytes s → b ≡ wrapped kek key
-unfolding wrapped
-wrapped_made kek key ks r s b keys starts steps joins = joins ∙ rw (steps, starts, keys)
-
-pub unwrapped_made : (kek w : List ℕ) (ks : List State) (r s : Register) → ks ≡ schedule kek → r ≡ parts 5 w → s ≡ unwrap_steps ks 24 r → s ≡ unwrapped kek w
-unfolding unwrapped
-unwrapped_made kek w ks r s keys starts steps = steps ∙ rw (starts, keys)
-
 -- ---- the loops
 
-pub wrap_steps_turn : (ks : List State) (t : ℕ) (r s next : Register) → s ≡ wrap_steps ks t r → next ≡ wrap_step ks (t + 1) s → next ≡ wrap_steps ks (t + 1) r
+pub wrap_steps_turn : (ks : List State) (t : ℕ) (r s next : Register) → 1 ≤ t → s ≡ wrap_steps ks (t - 1) r → next ≡ wrap_step ks t s → next ≡ wrap_steps ks (t + 1 - 1) r
 unfolding wrap_steps
-wrap_steps_turn ks t r s next before made = rw (made, before, add-one)
+wrap_steps_turn ks zero r s next h before made = absurd (omega arith)
+wrap_steps_turn ks (suc t) r s next h before made = rw (made, before, add-one, sub-one, sub-one)
 
--- n steps are done, and t is the next
-pub unwrap_steps_turn : (ks : List State) (n t : ℕ) (s next : Register) → n < 24 → t ≡ 24 - n → next ≡ unwrap_step ks t s
-    → unwrap_steps ks (24 - (n + 1)) next ≡ unwrap_steps ks (24 - n) s
+pub unwrap_steps_turn : (ks : List State) (t : ℕ) (s next : Register) → 1 ≤ t → next ≡ unwrap_step ks t s → unwrap_steps ks (t - 1) next ≡ unwrap_steps ks t s
 unfolding unwrap_steps
-unwrap_steps_turn ks n t s next h place made =
-    let more : 24 - n ≡ suc (24 - (n + 1)) = omega arith in
-    rw (made, place, more)
+unwrap_steps_turn ks zero s next h made = absurd (omega arith)
+unwrap_steps_turn ks (suc t) s next h made = rw (made, sub-one)

@@ -2,31 +2,21 @@
 ghost use Rattle.std.specs.Prelude.{◌≡◌, ◌∷◌, ◌++◌, ◌+◌, ◌≤◌, length};
 ghost use Rattle.octets.specs.Values.{bytes_at};
 ghost use Rattle.octets.specs.Xor.{xors};
-ghost use Rattle.keywrap.specs.Wrap.{start_value, parts, register_bytes};
-
-use crate::WRAPPED_SIZE;
-use octets::strings::put;
+ghost use Rattle.keywrap.specs.Wrap.{start_value, parts};
 
 pub(crate) type Part = [u8; 8];
 
 pub(crate) type Register = [Part; 5];
 
 // The initial value of A (2.2.3.1).
-pub(crate) fn start_value() -> Part
-    ensures { result ≡ start_value }
-{
-    *b"\xa6\xa6\xa6\xa6\xa6\xa6\xa6\xa6"
-}
+pub(crate) const START_VALUE: Part = [0xa6; 8];
 
 // The eight bytes from a place.
 pub(crate) fn eight_at(s: &[u8], at: usize) -> Part
     requires { at + 8 ≤ length s.now }
     ensures { result ≡ bytes_at 8 s.now at }
 {
-    let mut p = [0u8; 8];
-    let end = at + 8;
-    put(&mut p, &s[at..end]);
-    p
+    *s[at..].first_chunk().unwrap()
 }
 
 // The exclusive or of two parts.
@@ -51,7 +41,7 @@ pub(crate) fn from_key(key: &[u8]) -> Register
     ensures { result ≡ start_value ∷ parts 4 key.now }
 {
     [
-        start_value(),
+        START_VALUE,
         eight_at(key, 0),
         eight_at(key, 8),
         eight_at(key, 16),
@@ -71,17 +61,4 @@ pub(crate) fn from_wrapped(w: &[u8]) -> Register
         eight_at(w, 24),
         eight_at(w, 32),
     ]
-}
-
-// The register's parts as one string.
-pub(crate) fn bytes_of(r: Register) -> [u8; 40]
-    ensures { result ≡ register_bytes r }
-{
-    let mut s = [0u8; 40];
-    let mut i: usize = 0;
-    while i < WRAPPED_SIZE {
-        s[i] = r[i / 8][i % 8];
-        i += 1;
-    }
-    s
 }

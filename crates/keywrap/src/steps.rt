@@ -17,6 +17,7 @@ fn part_at(t: usize) -> usize
     (t - 1) % 4 + 1
 }
 
+#[tactic(auto, using(crate::proofs::Stepped::wrap_step_made))]
 fn wrap_step(ks: RoundKeys, t: usize, r: Register) -> Register
     requires { 1 ≤ t }
     ensures { result ≡ wrap_step ks t r }
@@ -31,6 +32,7 @@ fn wrap_step(ks: RoundKeys, t: usize, r: Register) -> Register
     s
 }
 
+#[tactic(auto, using(crate::proofs::Stepped::unwrap_step_made))]
 fn unwrap_step(ks: RoundKeys, t: usize, r: Register) -> Register
     requires { 1 ≤ t }
     ensures { result ≡ unwrap_step ks t r }
@@ -46,36 +48,26 @@ fn unwrap_step(ks: RoundKeys, t: usize, r: Register) -> Register
     s
 }
 
+#[tactic(auto, using(crate::proofs::Stepped::wrap_steps_turn), unfolding(crate::specs::Wrap::wrap_steps))]
 pub(crate) fn wrap_steps(ks: RoundKeys, r: Register) -> Register
     ensures { result ≡ wrap_steps ks 24 r }
 {
     let mut s = r;
-    let mut t: usize = 0;
-    while t < STEPS {
-        let next = wrap_step(ks, t + 1, s);
+    for t in 1..=STEPS {
+        let next = wrap_step(ks, t, s);
         s = next;
-        t += 1;
     }
     s
 }
 
-// The step of unwrapping that follows n others: they go from 24 down.
-fn step_after(n: usize) -> usize
-    requires { n < 24 }
-    ensures { (result ≡ 24 - n) × (1 ≤ result) }
-{
-    STEPS - n
-}
-
+#[tactic(auto, using(crate::proofs::Stepped::unwrap_steps_turn), unfolding(crate::specs::Wrap::unwrap_steps))]
 pub(crate) fn unwrap_steps(ks: RoundKeys, r: Register) -> Register
     ensures { result ≡ unwrap_steps ks 24 r }
 {
     let mut s = r;
-    let mut n: usize = 0;
-    while n < STEPS {
-        let next = unwrap_step(ks, step_after(n), s);
+    for t in (1..=STEPS).rev() {
+        let next = unwrap_step(ks, t, s);
         s = next;
-        n += 1;
     }
     s
 }
