@@ -38,15 +38,17 @@ pub(crate) fn from_columns(a: u32, b: u32, c: u32, d: u32) -> Halves
     }
 }
 
-pub(crate) fn halves_of(s: State) -> Halves
-    ensures { columns_of result ≡ state_of (λ c. column_bytes (column s c)) }
-{
-    from_columns(
-        column_word(s[0]),
-        column_word(s[1]),
-        column_word(s[2]),
-        column_word(s[3]),
-    )
+impl From<State> for Halves {
+    ghost from_gives = { λ s h. columns_of h ≡ state_of (λ c. column_bytes (column s c)) };
+
+    fn from(s: State) -> Halves {
+        from_columns(
+            column_word(s[0]),
+            column_word(s[1]),
+            column_word(s[2]),
+            column_word(s[3]),
+        )
+    }
 }
 
 fn whole_at(s: &[u8], i: usize) -> Halves
@@ -61,10 +63,12 @@ fn whole_at(s: &[u8], i: usize) -> Halves
     )
 }
 
-pub fn halves_from(b: Block) -> Halves
-    ensures { halves_block result ≡ b }
-{
-    whole_at(&b, 0)
+impl From<Block> for Halves {
+    ghost from_gives = { λ b h. halves_block h ≡ b };
+
+    fn from(b: Block) -> Halves {
+        whole_at(&b, 0)
+    }
 }
 
 // Whether a block lies in n bytes from place i on.
@@ -122,12 +126,14 @@ fn put_whole(out: &mut [u8], h: Halves)
     write_word(out, 8, h.second);
 }
 
-pub fn block(h: Halves) -> Block
-    ensures { result ≡ halves_block h }
-{
-    let mut b = [0u8; 16];
-    put_whole(&mut b, h);
-    b
+impl From<Halves> for Block {
+    ghost from_gives = { λ h b. b ≡ halves_block h };
+
+    fn from(h: Halves) -> Block {
+        let mut b = [0u8; 16];
+        put_whole(&mut b, h);
+        b
+    }
 }
 
 // The block over the front of the output, as far as it reaches.
@@ -135,7 +141,7 @@ pub fn put_halves(out: &mut [u8], h: Halves)
     ensures { out.new ≡ over (halves_block h) out.old }
 {
     if out.len() < 16 {
-        let b = block(h);
+        let b = Block::from(h);
         put(out, &b);
         return;
     }

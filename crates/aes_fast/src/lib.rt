@@ -20,7 +20,7 @@ ghost use Rattle.aes_fast.specs.Start.{cipher_from};
 ghost use Rattle.aes_fast.specs.Laws.{Ciphered};
 
 use aes::{LAST_ROUND, MIDDLE_ROUNDS, RoundKeys};
-use halves::{Both, Halves, add_halves, block, halves_from, halves_of};
+use halves::{Both, Halves, add_halves};
 use octets::strings::Block;
 use rounds::{last_of_three, round_of_three};
 use row_0::ROW_0;
@@ -28,7 +28,7 @@ use row_1::ROW_1;
 use row_2::ROW_2;
 use row_3::ROW_3;
 use start::{Start, begun};
-use three_words::{three_words_from, three_words_of};
+use three_words::ThreeWords;
 
 // For each row, a word for each byte.
 pub type Tables = [[u32; 256]; 4];
@@ -51,7 +51,7 @@ impl Keyed<'_> {
     pub fn encrypt(self, b: Block) -> Block
         ensures { Ciphered self.entry.tables.now self.entry.keys.now (λ f. f b) result }
     {
-        block(self.rounds_after(0, add_halves(halves_from(b), halves_of(self.keys[0]))))
+        Block::from(self.rounds_after(0, add_halves(Halves::from(b), Halves::from(self.keys[0]))))
     }
 
     // The block that ends with the byte `low`, from what it shares with others.
@@ -76,20 +76,20 @@ impl Keyed<'_> {
     pub fn encrypt_beside(self, b: Halves, s: Start, low: u8) -> Both
         ensures { (halves_block result.one ≡ cipher_by self.entry.tables.now self.entry.keys.now (halves_block b)) × (halves_block result.other ≡ cipher_from self.entry.tables.now self.entry.keys.now s low) }
     {
-        let none = three_words_from(add_halves(b, halves_of(self.keys[0])));
-        let one = round_of_three(self.tables, none, three_words_of(self.keys[1]));
-        let mut x = round_of_three(self.tables, one, three_words_of(self.keys[2]));
-        let mut y = three_words_from(begun(self.tables, s, low));
+        let none = ThreeWords::from(add_halves(b, Halves::from(self.keys[0])));
+        let one = round_of_three(self.tables, none, ThreeWords::from(self.keys[1]));
+        let mut x = round_of_three(self.tables, one, ThreeWords::from(self.keys[2]));
+        let mut y = ThreeWords::from(begun(self.tables, s, low));
         let mut i: usize = 2;
         while i < MIDDLE_ROUNDS {
-            let k = three_words_of(self.keys[i + 1]);
+            let k = ThreeWords::from(self.keys[i + 1]);
             let u = round_of_three(self.tables, x, k);
             let v = round_of_three(self.tables, y, k);
             x = u;
             y = v;
             i += 1;
         }
-        let k = halves_of(self.keys[LAST_ROUND]);
+        let k = Halves::from(self.keys[LAST_ROUND]);
         Both {
             one: last_of_three(self.tables, x, k),
             other: last_of_three(self.tables, y, k),
@@ -100,19 +100,19 @@ impl Keyed<'_> {
     pub fn encrypt_two(self, b: Block, c: Block) -> Both
         ensures { Ciphered self.entry.tables.now self.entry.keys.now (λ f. f b) (halves_block result.one) × Ciphered self.entry.tables.now self.entry.keys.now (λ f. f c) (halves_block result.other) }
     {
-        let first = halves_of(self.keys[0]);
-        let mut x = three_words_from(add_halves(halves_from(b), first));
-        let mut y = three_words_from(add_halves(halves_from(c), first));
+        let first = Halves::from(self.keys[0]);
+        let mut x = ThreeWords::from(add_halves(Halves::from(b), first));
+        let mut y = ThreeWords::from(add_halves(Halves::from(c), first));
         let mut i: usize = 0;
         while i < MIDDLE_ROUNDS {
-            let k = three_words_of(self.keys[i + 1]);
+            let k = ThreeWords::from(self.keys[i + 1]);
             let u = round_of_three(self.tables, x, k);
             let v = round_of_three(self.tables, y, k);
             x = u;
             y = v;
             i += 1;
         }
-        let k = halves_of(self.keys[LAST_ROUND]);
+        let k = Halves::from(self.keys[LAST_ROUND]);
         Both {
             one: last_of_three(self.tables, x, k),
             other: last_of_three(self.tables, y, k),

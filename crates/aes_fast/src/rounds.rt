@@ -5,11 +5,9 @@ ghost use Rattle.aes_fast.specs.Halves.{columns_of};
 ghost use Rattle.aes_fast.specs.FourWords.{columns_in};
 ghost use Rattle.aes_fast.specs.ThreeWords.{columns_held};
 
-use crate::four_words::{FourWords, four_words_from, four_words_of};
-use crate::halves::{Both, Halves, add_halves, from_columns, halves_of};
-use crate::three_words::{
-    ThreeWords, halves_held, three_words_from, three_words_of, three_words_with,
-};
+use crate::four_words::FourWords;
+use crate::halves::{Both, Halves, add_halves, from_columns};
+use crate::three_words::{ThreeWords, three_words_with};
 use crate::{Keyed, Tables};
 use aes::{LAST_ROUND, MIDDLE_ROUNDS};
 
@@ -95,7 +93,7 @@ pub(crate) fn round_of_three(t: &Tables, s: ThreeWords, k: ThreeWords) -> ThreeW
 pub(crate) fn last_of_three(t: &Tables, s: ThreeWords, k: Halves) -> Halves
     ensures { columns_of result ≡ last_round_by t.now (columns_held s) (columns_of k) }
 {
-    last_round(t, halves_held(s), k)
+    last_round(t, Halves::from(s), k)
 }
 
 impl Keyed<'_> {
@@ -104,15 +102,18 @@ impl Keyed<'_> {
         requires { done ≤ 13 }
         ensures { columns_of result ≡ later_rounds_by self.entry.tables.now self.entry.keys.now done (columns_of s) }
     {
-        let mut x = four_words_from(s);
+        let mut x = FourWords::from(s);
         let mut i = done;
         while i < MIDDLE_ROUNDS {
-            let u = round_of_four(self.tables, x, four_words_of(self.keys[i + 1]));
+            let u = round_of_four(self.tables, x, FourWords::from(self.keys[i + 1]));
             x = u;
             i += 1;
         }
-        let h = from_columns(x.a, x.b, x.c, x.d);
-        last_round(self.tables, h, halves_of(self.keys[LAST_ROUND]))
+        last_round(
+            self.tables,
+            Halves::from(x),
+            Halves::from(self.keys[LAST_ROUND]),
+        )
     }
 
     // Rounds 3 to 14 of two states side by side: neither waits for the other.
@@ -120,18 +121,18 @@ impl Keyed<'_> {
         ensures one_value { columns_of result.one ≡ later_rounds_by self.entry.tables.now self.entry.keys.now 2 (columns_of s.one) }
         ensures other_value { columns_of result.other ≡ later_rounds_by self.entry.tables.now self.entry.keys.now 2 (columns_of s.other) }
     {
-        let mut x = three_words_from(s.one);
-        let mut y = three_words_from(s.other);
+        let mut x = ThreeWords::from(s.one);
+        let mut y = ThreeWords::from(s.other);
         let mut i: usize = 2;
         while i < MIDDLE_ROUNDS {
-            let k = three_words_of(self.keys[i + 1]);
+            let k = ThreeWords::from(self.keys[i + 1]);
             let u = round_of_three(self.tables, x, k);
             let v = round_of_three(self.tables, y, k);
             x = u;
             y = v;
             i += 1;
         }
-        let k = halves_of(self.keys[LAST_ROUND]);
+        let k = Halves::from(self.keys[LAST_ROUND]);
         Both {
             one: last_of_three(self.tables, x, k),
             other: last_of_three(self.tables, y, k),

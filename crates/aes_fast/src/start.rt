@@ -6,9 +6,9 @@ ghost use Rattle.aes_fast.specs.ByTables.{column_from, table_entry};
 ghost use Rattle.aes_fast.specs.Halves.{columns_of};
 ghost use Rattle.aes_fast.specs.Start.{column_adds, begun_by, start_by};
 
-use crate::halves::{Halves, add_halves, from_columns, halves_from, halves_of};
+use crate::halves::{Halves, add_halves, from_columns};
 use crate::rounds::round_of_three;
-use crate::three_words::{halves_held, three_words_from, three_words_of};
+use crate::three_words::ThreeWords;
 use crate::{Keyed, Tables};
 use octets::strings::Block;
 
@@ -44,14 +44,14 @@ impl Keyed<'_> {
         ensures { result ≡ start_by self.entry.tables.now self.entry.keys.now b }
     {
         let t = self.tables;
-        let s = add_halves(halves_from(b), halves_of(self.keys[0]));
-        let one = round_of_three(t, three_words_from(s), three_words_of(self.keys[1]));
-        let two = round_of_three(t, one, three_words_of(self.keys[2]));
+        let s = add_halves(Halves::from(b), Halves::from(self.keys[0]));
+        let one = round_of_three(t, ThreeWords::from(s), ThreeWords::from(self.keys[1]));
+        let two = round_of_three(t, one, ThreeWords::from(self.keys[2]));
         let u = (one.first % 4294967296) as u32;
         Start {
             key: self.keys[0][3][3],
             first: add_entry(t, u, s.second / 72057594037927936),
-            second: add_halves(halves_held(two), column_adds(t, u)),
+            second: add_halves(Halves::from(two), column_adds(t, u)),
         }
     }
 }

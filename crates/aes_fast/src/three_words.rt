@@ -19,32 +19,38 @@ pub struct ThreeWords {
 }
 
 // The words of a round key.
-pub(crate) fn three_words_of(s: State) -> ThreeWords
-    ensures { columns_held result ≡ state_of (λ c. column_bytes (column s c)) }
-{
-    ThreeWords {
-        first: half_of(column_word(s[0]), column_word(s[1])),
-        c: column_word(s[2]),
-        d: column_word(s[3]),
+impl From<State> for ThreeWords {
+    ghost from_gives = { λ s x. columns_held x ≡ state_of (λ c. column_bytes (column s c)) };
+
+    fn from(s: State) -> ThreeWords {
+        ThreeWords {
+            first: half_of(column_word(s[0]), column_word(s[1])),
+            c: column_word(s[2]),
+            d: column_word(s[3]),
+        }
     }
 }
 
-pub(crate) fn three_words_from(h: Halves) -> ThreeWords
-    ensures { columns_held result ≡ columns_of h }
-{
-    ThreeWords {
-        first: h.first,
-        c: (h.second % 4294967296) as u32,
-        d: (h.second / 4294967296) as u32,
+impl From<Halves> for ThreeWords {
+    ghost from_gives = { λ h x. columns_held x ≡ columns_of h };
+
+    fn from(h: Halves) -> ThreeWords {
+        ThreeWords {
+            first: h.first,
+            c: (h.second % 4294967296) as u32,
+            d: (h.second / 4294967296) as u32,
+        }
     }
 }
 
-pub(crate) fn halves_held(x: ThreeWords) -> Halves
-    ensures { columns_of result ≡ columns_held x }
-{
-    Halves {
-        first: x.first,
-        second: half_of(x.c, x.d),
+impl From<ThreeWords> for Halves {
+    ghost from_gives = { λ x h. columns_of h ≡ columns_held x };
+
+    fn from(x: ThreeWords) -> Halves {
+        Halves {
+            first: x.first,
+            second: half_of(x.c, x.d),
+        }
     }
 }
 

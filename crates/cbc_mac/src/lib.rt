@@ -7,7 +7,7 @@ ghost use Rattle.aes_fast.specs.ByTables.{cipher_by};
 ghost use Rattle.aes_fast.specs.Laws.{Ciphered};
 
 use aes_fast::Keyed;
-use aes_fast::halves::{block, halves_at};
+use aes_fast::halves::halves_at;
 use octets::strings::{Block, xor_blocks};
 
 // A part that stays within the block, added from place k on.
@@ -32,7 +32,7 @@ fn absorb_blocks(cipher: Keyed, y: Block, part: &[u8]) -> Block
     let mut x = y;
     let mut at = 0;
     while 16 <= n - at {
-        let b = block(halves_at(part, at));
+        let b = Block::from(halves_at(part, at));
         let u = cipher.encrypt(xor_blocks(x, b));
         x = u;
         at += 16;

@@ -25,7 +25,7 @@ loop-at-preserved c =
       omega arith,
       ap (λ (x : List ℕ). absorb f 0 x (drop (l.at + 16) a.part.now))
           (c.encrypt-u.ensures.by-tables
-          ∙ ap f (c.xor_blocks.ensures ∙ ap (xors l.x) (c.block-b.ensures ∙ c.halves_at.ensures ∙ block_at-whole a.part.now l.at (omega arith))))
+          ∙ ap f (c.xor_blocks.ensures ∙ ap (xors l.x) (c.from-b.ensures ∙ c.halves_at.ensures ∙ block_at-whole a.part.now l.at (omega arith))))
           ∙ absorb_block_turn f l.x a.part.now l.at l.invariant.1 (omega arith) ∙ l.invariant.2,
     )
 

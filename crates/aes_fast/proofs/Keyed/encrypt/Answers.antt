@@ -10,6 +10,6 @@ pub returns : goal.returns
 returns c =
     let a = c.args in
     ciphered _ _ (array_bytes 16 a.b _ c.well_formed.1.0)
-    (c.block.ensures
-    ∙ cipher_by_read a.self.tables.now a.self.keys.now c.halves_from.result c.halves_of.result c.add_halves.result c.rounds_after.result
-    c.halves_from.ensures c.halves_of.ensures c.add_halves.ensures refl c.rounds_after.ensures)
+    (c.from-3.ensures
+    ∙ cipher_by_read a.self.tables.now a.self.keys.now c.from.result c.from-2.result c.add_halves.result c.rounds_after.result
+    c.from.ensures c.from-2.ensures c.add_halves.ensures refl c.rounds_after.ensures)

@@ -15,25 +15,25 @@ loop-i-init c = both-none _ _ 2 _ _ (lit≤ tt)
 pub loop-i-preserved : goal.loop-i-preserved
 loop-i-preserved c =
     let l = c.loop-i in
-    both_more _ _ 2 _ _ l.x l.y l.i l.invariant c.three_words_of-k.result _ _ (omega arith)
-    c.three_words_of-k.ensures c.round_of_three-u.ensures c.round_of_three-v.ensures
+    both_more _ _ 2 _ _ l.x l.y l.i l.invariant c.from-k.result _ _ (omega arith)
+    c.from-k.ensures c.round_of_three-u.ensures c.round_of_three-v.ensures
 
 pub returns : goal.returns
 returns c =
     let l = c.loop-i in
     let a = c.args in
-    let x = c.three_words_from-none.result in
+    let x = c.from-none.result in
     let y = c.round_of_three-one.result in
     let z = c.round_of_three-x.result in
     let all : l.i ≡ 13 = omega (arith, c.loop-i-test.false, l.invariant.1) in
     let both =
-    both_last a.self.tables.now a.self.keys.now 2 z c.three_words_from-y.result l.x l.y l.i l.invariant c.halves_of-k.result _ _ all
-    c.halves_of-k.ensures c.last_of_three.ensures c.last_of_three-2.ensures in (
+    both_last a.self.tables.now a.self.keys.now 2 z c.from-y.result l.x l.y l.i l.invariant c.from-k-2.result _ _ all
+    c.from-k-2.ensures c.last_of_three.ensures c.last_of_three-2.ensures in (
       cipher_by_two a.self.tables.now a.self.keys.now _ _ _ _ _
-          (c.three_words_from-none.ensures
-          ∙ first_key a.self.tables.now a.self.keys.now a.b c.halves_of.result c.add_halves.result c.add_halves.ensures c.halves_of.ensures)
-          (round_by_key a.self.tables.now (columns_held x) _ c.round_of_three-one.ensures c.three_words_of.ensures)
-          (round_by_key a.self.tables.now (columns_held y) _ c.round_of_three-x.ensures c.three_words_of-2.ensures)
+          (c.from-none.ensures
+          ∙ first_key a.self.tables.now a.self.keys.now a.b c.from.result c.add_halves.result c.add_halves.ensures c.from.ensures)
+          (round_by_key a.self.tables.now (columns_held x) _ c.round_of_three-one.ensures c.from-2.ensures)
+          (round_by_key a.self.tables.now (columns_held y) _ c.round_of_three-x.ensures c.from-3.ensures)
           both.0,
-      cipher_from_begun a.self.tables.now a.self.keys.now a.s a.low _ _ (c.three_words_from-y.ensures ∙ c.begun.ensures) both.1,
+      cipher_from_begun a.self.tables.now a.self.keys.now a.s a.low _ _ (c.from-y.ensures ∙ c.begun.ensures) both.1,
     )

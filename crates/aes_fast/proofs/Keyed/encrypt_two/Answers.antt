@@ -16,22 +16,22 @@ loop-i-init c = both-none _ _ 0 _ _ (lit≤ tt)
 pub loop-i-preserved : goal.loop-i-preserved
 loop-i-preserved c =
     let l = c.loop-i in
-    both_more _ _ 0 _ _ l.x l.y l.i l.invariant c.three_words_of-k.result _ _ (omega arith)
-    c.three_words_of-k.ensures c.round_of_three-u.ensures c.round_of_three-v.ensures
+    both_more _ _ 0 _ _ l.x l.y l.i l.invariant c.from-k.result _ _ (omega arith)
+    c.from-k.ensures c.round_of_three-u.ensures c.round_of_three-v.ensures
 
 pub returns : goal.returns
 returns c =
     let l = c.loop-i in
     let a = c.args in
-    let k = c.halves_of-first.result in
+    let k = c.from-first.result in
     let all : l.i ≡ 13 = omega (arith, c.loop-i-test.false, l.invariant.1) in
     let both =
-    both_last a.self.tables.now a.self.keys.now 0 c.three_words_from-x.result c.three_words_from-y.result l.x l.y l.i l.invariant c.halves_of-k.result _ _ all
-    c.halves_of-k.ensures c.last_of_three.ensures c.last_of_three-2.ensures in (
+    both_last a.self.tables.now a.self.keys.now 0 c.from-x.result c.from-y.result l.x l.y l.i l.invariant c.from-k-2.result _ _ all
+    c.from-k-2.ensures c.last_of_three.ensures c.last_of_three-2.ensures in (
       ciphered _ _ (array_bytes 16 a.b _ c.well_formed.1.0)
-          (cipher_by_read a.self.tables.now a.self.keys.now c.halves_from.result k c.add_halves.result c.last_of_three.result
-          c.halves_from.ensures c.halves_of-first.ensures c.add_halves.ensures c.three_words_from-x.ensures both.0),
+          (cipher_by_read a.self.tables.now a.self.keys.now c.from.result k c.add_halves.result c.last_of_three.result
+          c.from.ensures c.from-first.ensures c.add_halves.ensures c.from-x.ensures both.0),
       ciphered _ _ (array_bytes 16 a.c _ c.well_formed.1.1.0)
-          (cipher_by_read a.self.tables.now a.self.keys.now c.halves_from-2.result k c.add_halves-2.result c.last_of_three-2.result
-          c.halves_from-2.ensures c.halves_of-first.ensures c.add_halves-2.ensures c.three_words_from-y.ensures both.1),
+          (cipher_by_read a.self.tables.now a.self.keys.now c.from-2.result k c.add_halves-2.result c.last_of_three-2.result
+          c.from-2.ensures c.from-first.ensures c.add_halves-2.ensures c.from-y.ensures both.1),
     )

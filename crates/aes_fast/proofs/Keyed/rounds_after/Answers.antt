@@ -19,7 +19,7 @@ loop-i-preserved c =
     let a = c.args in (
       omega arith,
       omega arith,
-      rounds_after_more _ _ a.done l.i _ l.invariant.0 l.invariant.2 (round_by_key _ (columns_in l.x) _ c.round_of_four-u.ensures c.four_words_of.ensures),
+      rounds_after_more _ _ a.done l.i _ l.invariant.0 l.invariant.2 (round_by_key _ (columns_in l.x) _ c.round_of_four-u.ensures c.from.ensures),
     )
 
 pub returns : goal.returns
@@ -27,7 +27,7 @@ returns c =
     let l = c.loop-i in
     let a = c.args in
     let all : l.i ≡ 13 = omega arith in
-    last_rounds a.self.tables.now a.self.keys.now a.done l.i (columns_in c.four_words_from-x.result) (columns_of c.from_columns-h.result) _ all
-    (last_round_by_key _ _ (get_or a.self.keys.now 14 []) c.last_round.ensures c.halves_of.ensures)
-    (c.from_columns-h.ensures ∙ l.invariant.2)
-    ∙ ap (later_rounds_by a.self.tables.now a.self.keys.now a.done) c.four_words_from-x.ensures
+    last_rounds a.self.tables.now a.self.keys.now a.done l.i (columns_in c.from-x.result) (columns_of c.from-2.result) _ all
+    (last_round_by_key _ _ (get_or a.self.keys.now 14 []) c.last_round.ensures c.from-3.ensures)
+    (c.from-2.ensures ∙ l.invariant.2)
+    ∙ ap (later_rounds_by a.self.tables.now a.self.keys.now a.done) c.from-x.ensures

@@ -13,8 +13,8 @@ loop-i-init c = both-none _ _ 2 _ _ (lit≤ tt)
 pub loop-i-preserved : goal.loop-i-preserved
 loop-i-preserved c =
     let l = c.loop-i in
-    both_more _ _ 2 _ _ l.x l.y l.i l.invariant c.three_words_of-k.result _ _ (omega arith)
-    c.three_words_of-k.ensures c.round_of_three-u.ensures c.round_of_three-v.ensures
+    both_more _ _ 2 _ _ l.x l.y l.i l.invariant c.from-k.result _ _ (omega arith)
+    c.from-k.ensures c.round_of_three-u.ensures c.round_of_three-v.ensures
 
 pub returns : goal.returns
 returns c =
@@ -22,8 +22,8 @@ returns c =
     let a = c.args in
     let all : l.i ≡ 13 = omega (arith, c.loop-i-test.false, l.invariant.1) in
     let both =
-    both_last a.self.tables.now a.self.keys.now 2 c.three_words_from-x.result c.three_words_from-y.result l.x l.y l.i l.invariant c.halves_of-k.result _ _ all
-    c.halves_of-k.ensures c.last_of_three.ensures c.last_of_three-2.ensures in record {
-      one_value = both.0 ∙ ap (later_rounds_by a.self.tables.now a.self.keys.now 2) c.three_words_from-x.ensures;
-      other_value = both.1 ∙ ap (later_rounds_by a.self.tables.now a.self.keys.now 2) c.three_words_from-y.ensures;
+    both_last a.self.tables.now a.self.keys.now 2 c.from-x.result c.from-y.result l.x l.y l.i l.invariant c.from-k-2.result _ _ all
+    c.from-k-2.ensures c.last_of_three.ensures c.last_of_three-2.ensures in record {
+      one_value = both.0 ∙ ap (later_rounds_by a.self.tables.now a.self.keys.now 2) c.from-x.ensures;
+      other_value = both.1 ∙ ap (later_rounds_by a.self.tables.now a.self.keys.now 2) c.from-y.ensures;
     }

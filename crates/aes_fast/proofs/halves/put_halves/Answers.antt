@@ -11,7 +11,7 @@ use Rattle.aes_fast.proofs.halves.put_halves.Goals as goal
 pub returns-then-out-lt16 : goal.returns-then-out-lt16
 returns-then-out-lt16 c =
     let a = c.args in
-    c.put.ensures ∙ ap (λ (b : List ℕ). over b a.out.now) c.block-b.ensures
+    c.put.ensures ∙ ap (λ (b : List ℕ). over b a.out.now) c.from-b.ensures
 
 pub returns : goal.returns
 returns c =

@@ -9,4 +9,4 @@ use Rattle.aes_fast.proofs.rounds.last_of_three.Goals as goal
 pub returns : goal.returns
 returns c =
     let a = c.args in
-    c.last_round.ensures ∙ ap (λ (s : State). last_round_by a.t.now s (columns_of a.k)) c.halves_held.ensures
+    c.last_round.ensures ∙ ap (λ (s : State). last_round_by a.t.now s (columns_of a.k)) c.from.ensures
