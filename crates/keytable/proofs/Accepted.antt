@@ -2,17 +2,20 @@
 -- Assumes nothing.
 use mathlib.Core.Path.{◌≡◌, refl, sym, ap, ◌∙◌}
 use mathlib.Core.Bool.{Bool, true, false}
-use mathlib.Core.List.{List, []}
+use mathlib.Core.List.{List, [], ◌∷◌}
 use Prim.Native.Nat.{ℕ, zero, suc, ◌+◌, ◌*◌, ◌≤◌, ◌<◌}
 use native.Mathlib.Nat.{le_of_suc-le-suc, not-suc-le-zero}
 use native.Mathlib.Omega.{arith}
 use borrow.Author.Tests.{leb-true, eqb-true}
 use lib.ListN.{length, get_or, take, drop, get_or-map, length-map}
 use lib.Seq.{drop-drop}
+use Rattle.std.specs.Prelude.{MatchBool}
+use Rattle.std.specs.List.{AllWithin, HoldsAt, range_with_len}
+use Rattle.std.proofs.lemmas.List.FromFn.{length-range_with_len, get_or-range_with_len}
 use Rattle.octets.specs.Tests.{all, part_of}
 use Rattle.keytable.specs.Row.{row_size, name_max, use_max, name_length, use_of, type_in, type_fits, row_ok, row_tests, row_in}
 use Rattle.keytable.specs.Table.{table_head_size, row_place, head_ok, head_tests, table_ok, table_tests, rows, row_parts, rows_of, row_number, row_count, distinct}
-use Rattle.octets.proofs.Tests.{all-stop, all_turn, all_end, all_at, every_at}
+use Rattle.octets.proofs.Tests.{all_at, every_at}
 
 -- ---- the header
 
@@ -71,17 +74,38 @@ parts_at t i h = rows_at (row_count t) i (drop table_head_size t) h ∙ rw drop-
 pub rows_of_at : (t : List ℕ) (i : ℕ) → i < row_count t → row_number (rows_of t) i ≡ row_in (part_of t (row_place i) row_size)
 rows_of_at t i h = get_or-map row_in (row_parts t) i [] ∙ ap row_in (parts_at t i h)
 
--- ---- all rows: what is left at row i decides
+-- ---- all rows, by their numbers
 
-module _ (p : List ℕ → Bool) (t : List ℕ) (i : ℕ) where
-  pub rows-stop : i < row_count t → p (part_of t (row_place i) row_size) ≡ false → all p (drop i (row_parts t)) ≡ false
-  rows-stop h e = all-stop p (row_parts t) i [] (simp length-parts h) (ap p (parts_at t i h) ∙ e)
+all_each : (p : List ℕ → Bool) (s : List (List ℕ)) → ((i : ℕ) → i < length s → p (get_or s i []) ≡ true) → all p s ≡ true
+unfolding all
+all_each p [] each = refl
+all_each p (x ∷ s) each = rw (each 0 (omega arith)) (all_each p s (λ i h. each (suc i) (omega (arith, h))))
 
-  pub rows_turn : i < row_count t → p (part_of t (row_place i) row_size) ≡ true → all p (drop i (row_parts t)) ≡ all p (drop (i + 1) (row_parts t))
-  rows_turn h e = all_turn p (row_parts t) i [] (simp length-parts h) (ap p (parts_at t i h) ∙ e)
+module _ (p : List ℕ → Bool) (t : List ℕ) where
+  abbrev passes_at : ℕ → Bool
+  passes_at i = p (part_of t (row_place i) row_size)
 
-  pub rows_end : row_count t ≤ i → all p (drop i (row_parts t)) ≡ true
-  rows_end h = all_end p (row_parts t) i (simp length-parts h)
+  -- whether each row passes, by what a walk along their numbers found: that each passes, or one that does not
+  pub rows_all : (n : ℕ) (b : Bool) → n ≡ row_count t
+      → let numbers = range_with_len 0 n in
+      MatchBool b (AllWithin (λ i. passes_at i ≡ true) numbers 0 (length numbers))
+      ((k : ℕ) × (k < length numbers) × HoldsAt (λ i. passes_at i ≡ false) numbers k)
+      → b ≡ all p (row_parts t)
+  rows_all n true count each = sym (all_each p (row_parts t) (λ i h. each_at i (omega (arith, h, length-parts t))))
+    where
+      each_at : (i : ℕ) → i < n → p (get_or (row_parts t) i []) ≡ true
+      each_at i below =
+          let here : i ≡ get_or (range_with_len 0 n) i 0 = omega (arith, get_or-range_with_len 0 n i 0 below) in
+          ap p (parts_at t i (omega arith)) ∙ ap passes_at here ∙ each i 0 (omega arith) (omega (arith, length-range_with_len 0 n))
+  rows_all n false count one = go (all p (row_parts t)) refl
+    where
+      go : (b : Bool) → all p (row_parts t) ≡ b → false ≡ b
+      go true e =
+          let (i, inside, fails) = one in
+          let below : i < row_count t = omega (arith, inside, length-range_with_len 0 n) in
+          let here : i ≡ get_or (range_with_len 0 n) i 0 = omega (arith, get_or-range_with_len 0 n i 0 (omega arith)) in
+          sym (fails 0) ∙ ap passes_at (sym here) ∙ ap p (sym (parts_at t i below)) ∙ all_at p (row_parts t) i [] e (omega (arith, length-parts t))
+      go false e = refl
 
 -- ---- an accepted row
 

@@ -1,12 +1,12 @@
 -- Marks: rows of one name that keep to the layout have one mark, so a row whose mark no later row has is the last of its pair; and sets of marks.
 -- Assumes nothing.
 use mathlib.Core.Path.{◌≡◌, refl, sym, ap, ◌∙◌}
-use mathlib.Core.Bool.{Bool, true, false}
+use mathlib.Core.Bool.{Bool, true, false, false≢true}
 use mathlib.Core.List.{List, [], ◌∷◌, ◌++◌}
 use Prim.Native.Nat.{ℕ, ◌+◌, ◌-◌, ◌*◌, ◌/◌, ◌%◌, ◌^◌, ◌≤◌, ◌<◌}
 use native.Mathlib.Nat.{mod-lt}
 use native.Mathlib.Omega.{arith}
-use borrow.Author.Tests.{eqb-true, eqb-false}
+use borrow.Author.Tests.{eqb-true, eqb-false, eq-eqb}
 use lib.Bits.{bit_or, or_add_and, and_le_r, or_comm, or_lt, or_shr, or_mod}
 use lib.Dec.{eqb}
 use lib.ListN.{length, get_or, set, drop, take, replicate, length-drop}
@@ -18,7 +18,7 @@ use Rattle.octets.proofs.Tests.{and_left, and_right, every_at, length_part}
 use Rattle.octets.proofs.Values.{cons_equal}
 use Rattle.keytable.specs.Row.{name_max, row_name_at, row_size, name_length, name_of, row_in, row_ok, row_tests, Row, matches}
 use Rattle.keytable.specs.Table.{row_place, row_count, row_parts, rows_of, no_row, row_number}
-use Rattle.keytable.specs.Marks.{mark_from, name_mark, row_mark, last_of_its_pair}
+use Rattle.keytable.specs.Marks.{mark_from, name_mark, row_mark, has_mark, last_of_its_pair}
 use Rattle.keytable.proofs.Accepted.{length-rows_of, rows_of_at, row_kept, part_ok}
 use Rattle.keytable.proofs.Lookup.{unmatched, absent-each}
 
@@ -52,12 +52,9 @@ mark-same : (s u : List ℕ) → length s ≡ row_size → length u ≡ row_size
 mark-same s u size-s size-u ok-s ok-u e =
     ap name_mark (name-whole s size-s ok-s ∙ ap (λ (n : List ℕ). n ++ replicate (name_max - length n) 0) e ∙ sym (name-whole u size-u ok-u))
 
--- ---- a set of marks: a bit for each, in words of 64
+-- ---- a set of marks: one is put in
 
-abbrev pub has_mark : List ℕ → ℕ → Type 0
-has_mark seen m = get_or seen (m / 64) 0 / 2 ^ (m % 64) % 2 ≡ 1
-
-abbrev pub with_mark : List ℕ → ℕ → List ℕ
+abbrev with_mark : List ℕ → ℕ → List ℕ
 with_mark seen m = set seen (m / 64) (bit_or (get_or seen (m / 64) 0) (1 * 2 ^ (m % 64) % 2 ^ 64))
 
 -- a bit that one of two numbers has is in both together
@@ -81,17 +78,20 @@ module _ (seen : List ℕ) (m : ℕ) (within : m / 64 < length seen) where
   word : get_or (with_mark seen m) (m / 64) 0 ≡ bit_or (get_or seen (m / 64) 0) (1 * 2 ^ (m % 64) % 2 ^ 64)
   word = get_or-set_same seen (m / 64) (bit_or (get_or seen (m / 64) 0) (1 * 2 ^ (m % 64) % 2 ^ 64)) 0 within
 
-  has_own : has_mark (with_mark seen m) m
-  has_own = rw word (own-bit (get_or seen (m / 64) 0) (m % 64) (mod-lt m (omega arith)))
+  pub has_own : has_mark (with_mark seen m) m ≡ true
+  has_own = eq-eqb _ 1 (rw word (own-bit (get_or seen (m / 64) 0) (m % 64) (mod-lt m (omega arith))))
 
-  has_still : (k : ℕ) → has_mark seen k → has_mark (with_mark seen m) k
-  has_still k e = go (eqb (k / 64) (m / 64)) refl
+  pub has_still : (k : ℕ) → has_mark seen k ≡ true → has_mark (with_mark seen m) k ≡ true
+  has_still k e = eq-eqb _ 1 (go (eqb (k / 64) (m / 64)) refl)
     where
-      go : (t : Bool) → eqb (k / 64) (m / 64) ≡ t → has_mark (with_mark seen m) k
+      had : get_or seen (k / 64) 0 / 2 ^ (k % 64) % 2 ≡ 1
+      had = eqb-true _ 1 e
+
+      go : (t : Bool) → eqb (k / 64) (m / 64) ≡ t → get_or (with_mark seen m) (k / 64) 0 / 2 ^ (k % 64) % 2 ≡ 1
       go true is =
           let one_word : k / 64 ≡ m / 64 = eqb-true (k / 64) (m / 64) is in
-          rw (one_word, word) (first_bit (get_or seen (m / 64) 0) (1 * 2 ^ (m % 64) % 2 ^ 64) (k % 64) (rw one_word at e))
-      go false other = rw (get_or-set_other seen (m / 64) (k / 64) _ 0 (eqb-false (k / 64) (m / 64) other)) e
+          rw (one_word, word) (first_bit (get_or seen (m / 64) 0) (1 * 2 ^ (m % 64) % 2 ^ 64) (k % 64) (rw one_word at had))
+      go false other = rw (get_or-set_other seen (m / 64) (k / 64) _ 0 (eqb-false (k / 64) (m / 64) other)) had
 
 -- ---- along the rows, from the last to the first
 
@@ -101,23 +101,23 @@ module _ (t : List ℕ) where
 
   -- the set has the marks of the rows from number i on
   pub record Marked (seen : List ℕ) (i : ℕ) : Type 0 where
-    pub each : (j : ℕ) → i ≤ j → j < row_count t → has_mark seen (mark_at j)
+    pub each : (j : ℕ) → i ≤ j → j < row_count t → has_mark seen (mark_at j) ≡ true
 
   pub marked_end : (seen : List ℕ) (i : ℕ) → row_count t ≤ i → Marked seen i
   marked_end seen i h = record { each = λ j from below. absurd (omega arith) }
 
   module _ (seen : List ℕ) (i m : ℕ) (is : m ≡ mark_at i) (later : Marked seen (i + 1)) where
-    pub marked_turn : m / 64 < length seen → Marked (with_mark seen m) i
-    marked_turn within = record { each = λ j from below. go j below (eqb j i) refl from }
+    pub marked_turn : (more : List ℕ) → has_mark more m ≡ true → ((k : ℕ) → has_mark seen k ≡ true → has_mark more k ≡ true) → Marked more i
+    marked_turn more own others = record { each = λ j from below. go j below (eqb j i) refl from }
       where
-        go : (j : ℕ) → j < row_count t → (b : Bool) → eqb j i ≡ b → i ≤ j → has_mark (with_mark seen m) (mark_at j)
-        go j below true this from = rw (eqb-true j i this, ← is) (has_own seen m within)
+        go : (j : ℕ) → j < row_count t → (b : Bool) → eqb j i ≡ b → i ≤ j → has_mark more (mark_at j) ≡ true
+        go j below true this from = rw (eqb-true j i this, ← is) own
         go j below false other from =
             let differ = eqb-false j i other in
-            has_still seen m within (mark_at j) (later.each j (omega (arith, differ)) below)
+            others (mark_at j) (later.each j (omega (arith, differ)) below)
 
     -- where all rows keep to the layout, a row whose mark no later row has is the last of its pair
-    pub marked_last : length t ≡ row_place (row_count t) → all row_ok (row_parts t) ≡ true → i < row_count t → (has_mark seen m → ⊥) → last_of_its_pair t i ≡ true
+    pub marked_last : length t ≡ row_place (row_count t) → all row_ok (row_parts t) ≡ true → i < row_count t → has_mark seen m ≡ false → last_of_its_pair t i ≡ true
     marked_last total ok h none = absent-each this.row_type this.row_name (drop (i + 1) (rows_of t)) each
       where
         this : Row
@@ -129,7 +129,7 @@ module _ (t : List ℕ) where
         other : (j : ℕ) → i < j → j < row_count t → name_of (part_of t (row_place j) row_size) ≡ this.row_name → ⊥
         other j from below e =
             let one-mark = mark-same _ _ (size j below) (size i h) (part_ok t j ok below) (part_ok t i ok h) e in
-            none (rw (is, ← one-mark) (later.each j (omega arith) below))
+            false≢true (sym none ∙ rw (is, ← one-mark) (later.each j (omega arith) below))
 
         each : (k : ℕ) → k < length (drop (i + 1) (rows_of t)) → matches this.row_type this.row_name (row_number (drop (i + 1) (rows_of t)) k) ≡ false
         each k below =

@@ -1,7 +1,7 @@
 -- A help of the code, on which no definition of another file leans: a mark for each row, by which the check for two rows of one type and name passes over
 -- most. All that matters of it is that the bytes in which a name stands decide it.
 -- Assumes nothing.
-use Rattle.std.specs.Prelude.{ℕ, ◌+◌, ◌-◌, ◌*◌, ◌/◌, ◌%◌, ◌^◌, Bool, List, drop}
+use Rattle.std.specs.Prelude.{ℕ, ◌+◌, ◌-◌, ◌*◌, ◌/◌, ◌%◌, ◌^◌, Bool, List, drop, eqb, get_or}
 use Rattle.std.specs.Int.Bits.{bit_or, bit_xor}
 use Rattle.octets.specs.BigEndian.{number_at}
 use Rattle.octets.specs.Tests.{part_of}
@@ -27,6 +27,10 @@ name_mark s = mark_from (number_at 8 s 0) (number_at 8 s 8) (number_at 8 s 16) (
 
 abbrev pub row_mark : List ℕ → ℕ
 row_mark s = name_mark (part_of s row_name_at name_max)
+
+-- a set of marks: a bit for each, in words of 64
+abbrev pub has_mark : List ℕ → ℕ → Bool
+has_mark seen m = eqb (get_or seen (m / 64) 0 / 2 ^ (m % 64) % 2) 1
 
 -- no later row has row i's type and name
 abbrev pub last_of_its_pair : List ℕ → ℕ → Bool

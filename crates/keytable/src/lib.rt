@@ -2,6 +2,7 @@
 // specs/Calls.antt the numbers.
 #![tactic(auto)]
 
+mod mark_set;
 mod row;
 mod rows;
 mod sizes;
@@ -10,18 +11,17 @@ ghost use Rattle.std.specs.Prelude.{◌≡◌};
 ghost use Rattle.octets.specs.Places.{placed};
 ghost use Rattle.refusals.specs.Numbers.{outcome_number};
 ghost use Rattle.keytable.specs.Row.{is_kek_type, placed_name, placed_key};
-ghost use Rattle.keytable.specs.Table.{row_place, number_of_place, head_ok, row_size_at, row_at, placed_row};
+ghost use Rattle.keytable.specs.Table.{row_place, number_of_place, row_size_at, row_at, placed_row};
 ghost use Rattle.keytable.specs.Calls.{table_says, table_answer, find_use};
 ghost use Rattle.keytable.specs.Find.{found_says, found_answer};
 
-use octets::big_endian::{read8, read16};
+use octets::big_endian::read8;
 use octets::strings::part_in;
 use refusals::Refusal;
-use rows::{find_from, rows_differ, rows_ok};
+use rows::Rows;
 use sizes::{
-    FIRST_ROW_AT, FORMAT_AT, HEAD_SIZE, KEK_BY_SAI, KEK_BY_VALUE, KEY_AT, KEY_SIZE, NAME_AT,
-    NAME_LENGTH_AT, NAME_MAX, ROW_COUNT_AT, ROW_LENGTH_AT, ROW_SIZE, TABLE_FORMAT, TYPE_MAX,
-    USE_AT,
+    HEAD_SIZE, KEK_BY_SAI, KEK_BY_VALUE, KEY_AT, KEY_SIZE, NAME_AT, NAME_LENGTH_AT, NAME_MAX,
+    ROW_SIZE, TYPE_MAX, USE_AT,
 };
 
 // The type of a row that is no key-encrypting key's: records and references look for it.
@@ -30,33 +30,15 @@ pub const DATA_TYPE: usize = 0x0000;
 // The most rows that a table may have.
 pub const ROW_MAX: usize = 64;
 
-// Whether the header keeps to the layout, and the total to its count of rows.
-fn head_ok(t: &[u8]) -> bool
-    ensures { result ≡ head_ok t.now }
-{
-    let r = read16(t, ROW_COUNT_AT);
-    (read16(t, FORMAT_AT) == TABLE_FORMAT)
-        & (r <= ROW_MAX)
-        & (read16(t, FIRST_ROW_AT) == HEAD_SIZE)
-        & (read16(t, ROW_LENGTH_AT) == ROW_SIZE)
-        & (t.len() == HEAD_SIZE + ROW_SIZE * r)
-}
-
 // Checks a table: its count of rows, or number 1.
 pub fn check(t: &[u8]) -> Result<usize, Refusal>
     ensures { table_says result ≡ table_answer t.now }
 {
-    if !head_ok(t) {
+    let rows = Rows::of(t)?;
+    if !rows.keep_to_the_layout() || !rows.differ() {
         return Err(Refusal::TableLayout);
     }
-    let r = read16(t, ROW_COUNT_AT);
-    if !rows_ok(t, r) {
-        return Err(Refusal::TableLayout);
-    }
-    if !rows_differ(t, r) {
-        return Err(Refusal::TableLayout);
-    }
-    Ok(r)
+    Ok(rows.count)
 }
 
 // Whether a key-encrypting key may have this type.
@@ -71,10 +53,7 @@ pub fn is_kek_type(kind: usize) -> bool
 pub fn find(t: &[u8], kind: usize, name: &[u8]) -> Result<usize, Refusal>
     ensures { found_says result ≡ found_answer t.now kind name.now }
 {
-    if !head_ok(t) {
-        return Err(Refusal::TableLayout);
-    }
-    find_from(t, read16(t, ROW_COUNT_AT), 0, kind, name)
+    Rows::of(t)?.find_from(0, kind, name)
 }
 
 // The place of row number i, from 0, and the number of the row at a place.

@@ -43,7 +43,5 @@ pub(crate) const KEK_BY_VALUE: usize = 0x0002;
 
 pub(crate) const TYPE_MAX: usize = 0x0002;
 
-// How many marks there are (specs/Marks.antt), and how many words of 64 bits have a bit for each.
+// How many marks there are (specs/Marks.antt).
 pub(crate) const MARK_COUNT: usize = 2048;
-
-pub(crate) const MARK_WORDS: usize = 32;

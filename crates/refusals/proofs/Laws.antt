@@ -59,3 +59,8 @@ says_same values tell (Err d) (Err f) e = ap Err (number_unique d f (ap (λ (p :
 pub passed_on : {A : Type 0} (r : Result A Refusal) (e : Refusal) → IsErrAnd r (λ x. x ≡ e) → outcome_number r ≡ number_of e
 passed_on (Ok a) e h = absurd h
 passed_on (Err x) e h = ap number_of h
+
+-- and is said as it was
+pub said_on : {A : Type 0} (values : A → List ℕ) (r : Result A Refusal) (e : Refusal) → IsErrAnd r (λ x. x ≡ e) → outcome_says values r ≡ (number_of e, [])
+said_on values (Ok a) e h = absurd h
+said_on values (Err x) e h = ap (λ (f : Refusal). (number_of f, [])) h

@@ -1,20 +1,25 @@
 -- `keytable::find` meets its contract: it looks from the first row on, once the header keeps to the layout.
 -- Assumes nothing.
 use mathlib.Core.Path.{sym, ap, ◌∙◌}
-use native.Mathlib.Omega.{arith}
-use Rattle.keytable.specs.Table.{row_place}
-use Rattle.keytable.specs.Find.{found_says}
-use Rattle.keytable.proofs.Accepted.{head_total}
+use mathlib.Core.List.{List, [], ◌∷◌}
+use Prim.Native.Nat.{ℕ}
+use Rattle.refusals.specs.Numbers.{number_of}
+use Rattle.refusals.specs.declared.Refusal.{Refusal}
+use Rattle.refusals.proofs.Laws.{said_on}
+use Rattle.keytable.specs.Table.{rows_of, table_head_size}
+use Rattle.keytable.specs.Find.{found_says, place_from}
 use Rattle.keytable.proofs.Lookup.{place_of-broken, place_of_looked}
 use Rattle.keytable.proofs.find.Goals as goal
 
-pub returns-then-not-head_ok : goal.returns-then-not-head_ok
-returns-then-not-head_ok c = ap found_says (sym (place_of-broken _ _ _ (sym c.head_ok.ensures ∙ c.if-not-head_ok.true)))
-
-pub find_from-requires : goal.find_from-requires
-find_from-requires c =
-    let total = head_total _ (sym c.head_ok.ensures ∙ c.if-not-head_ok.false) ∙ ap row_place (sym c.read16.ensures.0) in
-    (total, c.read16.ensures.0, omega arith)
+pub returns-in_err-of : goal.returns-in_err-of
+returns-in_err-of c =
+    said_on (λ i. i ∷ []) _ _ c.from_residual.ensures.1
+    ∙ ap (λ (e : Refusal). (number_of e, [])) c.in_err-of.ensures.0
+    ∙ ap found_says (sym (place_of-broken _ _ _ c.in_err-of.ensures.1))
 
 pub returns : goal.returns
-returns c = c.find_from.ensures ∙ ap found_says (sym (place_of_looked _ _ _ (sym c.head_ok.ensures ∙ c.if-not-head_ok.false)))
+returns c =
+    let a = c.args in
+    c.find_from.ensures
+    ∙ ap (λ (t : List ℕ). found_says (place_from table_head_size a.kind a.name.now (rows_of t))) c.in_ok-of.ensures.0
+    ∙ ap found_says (sym (place_of_looked _ _ _ c.in_ok-of.ensures.1))

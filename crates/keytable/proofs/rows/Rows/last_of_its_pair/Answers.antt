@@ -1,4 +1,4 @@
--- `keytable::rows::last_of_its_pair` meets its contract: the type and the name that are looked for are the row's.
+-- `keytable::rows::Rows::last_of_its_pair` meets its contract: the type and the name that are looked for are the row's.
 -- Assumes nothing.
 use mathlib.Core.Path.{ap, ap₂, ◌∙◌}
 use mathlib.Core.List.{List}
@@ -7,13 +7,13 @@ use lib.ListN.{drop}
 use Rattle.keytable.specs.Row.{type_in, name_of}
 use Rattle.keytable.specs.Table.{rows_of, absent}
 use Rattle.keytable.proofs.Places.{err-absent}
-use Rattle.keytable.proofs.rows.last_of_its_pair.Goals as goal
+use Rattle.keytable.proofs.rows.Rows.last_of_its_pair.Goals as goal
 
 pub returns : goal.returns
 returns c =
     let a = c.args in
-    let row = c.row-this.ensures in
+    let row = c.get-this.ensures in
     c.is_err.ensures.value
     ∙ err-absent _ _ _ _ _ c.find_from.ensures
-    ∙ ap₂ (λ (k : ℕ) (n : List ℕ). absent k n (drop (a.i + 1) (rows_of a.t.now)))
+    ∙ ap₂ (λ (k : ℕ) (n : List ℕ). absent k n (drop (a.i + 1) (rows_of a.self.table.now)))
     (c.type_of.ensures ∙ ap type_in row) (c.name_of.ensures ∙ ap name_of row)
