@@ -138,7 +138,7 @@ module _ (m : Mode) (fit : Fitting m) where
   encrypts_in_range : EncryptsInRange m
   encrypts_in_range key iv a b p out key_size iv-size permitted data_fits text_fits room =
       encrypt-done m key iv a b p out
-      (sym (arguments-pass _ a b p (length p + m.tag_size) (length out) (wrong_sizes_right m key iv p key_size iv-size permitted) data_fits text_fits room)) refl
+      (sym (arguments-pass _ a b p (length p + m.tag_size) (length out) (wrong_sizes_right m key iv p key_size iv-size permitted) data_fits text_fits room))
 
   verify_as_decrypting : VerifyAsDecrypting m
   unfolding decrypt_answer decrypt_number

@@ -18,6 +18,9 @@ use Rattle.octets.specs.Blocks.{cut}
 use Rattle.octets.proofs.Lent.{over_fits, over_front, over_then}
 use Rattle.octets.proofs.Bytes.{bytes_append, bytes_take}
 use Rattle.octets.proofs.BigEndian.{bytes-be, be_append}
+use Rattle.refusals.specs.Numbers.{number_of}
+use Rattle.refusals.specs.declared.Refusal.{Refusal}
+use Rattle.refusals.proofs.Laws.{not_zero}
 use Rattle.ghash.specs.Ghash.{zero_block, ghash}
 use Rattle.ghash.proofs.Laws.{ghash-length}
 use Rattle.modes.specs.Counter.{counter_block, ctr, counter_answer, front_of}
@@ -103,23 +106,24 @@ module _ (f : List ℕ → List ℕ) (size : (x : List ℕ) → length (f x) ≡
       ∙ sym (counter_answer_fits f 4 (front_of true base) 2 c out (counter_fits_four 2 (length c) (lit≤ tt) short))
       ∙ ran
 
-  -- the ciphertext over the front of the output, with the number n of its counters, and its tag after it
-  pub sealed_steps : (p out : List ℕ) {tag out₁ ys : List ℕ} {n : ℕ} → length p ≤ text_max → length p + 16 ≤ length out
-      → counter_answer f 4 (front_of true base) 2 p out ≡ (n, out₁) → tag ≡ gcm_tag f (front_of true base) a (take (length p) out₁)
+  -- its counters never run over
+  pub text-unrefused : (p out : List ℕ) (e : Refusal) {out₁ : List ℕ} → length p ≤ text_max → counter_answer f 4 (front_of true base) 2 p out ≡ (number_of e, out₁) → ⊥
+  text-unrefused p out e short ran = not_zero e (ap (λ (x : ℕ × List ℕ). x.0) (text-written p out short ran))
+
+  -- the ciphertext over the front of the output, and its tag after it
+  pub sealed_steps : (p out : List ℕ) {tag out₁ ys : List ℕ} → length p ≤ text_max → length p + 16 ≤ length out
+      → counter_answer f 4 (front_of true base) 2 p out ≡ (0, out₁) → tag ≡ gcm_tag f (front_of true base) a (take (length p) out₁)
       → ys ≡ over tag (take (length out₁ - length p) (drop (length p) out₁))
-      → answer 0 (gcm_text f iv p ++ gcm_tag f iv a (gcm_text f iv p)) out ≡ (n, take (length p) out₁ ++ (ys ++ drop (length out₁ - length p) (drop (length p) out₁)))
-  sealed_steps p out {tag} {out₁} {ys} {n} short fits ran et es =
-      ap₂ (λ (k : ℕ) (l : List ℕ). (k, l)) (ap (λ (x : ℕ × List ℕ). x.0) counted)
+      → answer 0 (gcm_text f iv p ++ gcm_tag f iv a (gcm_text f iv p)) out ≡ (0, take (length p) out₁ ++ (ys ++ drop (length out₁ - length p) (drop (length p) out₁)))
+  sealed_steps p out {tag} {out₁} {ys} short fits ran et es =
+      ap (λ (l : List ℕ). (0, l))
       (sym
       (over_then (gcm_text f iv p) (gcm_tag f iv a (gcm_text f iv p)) out out₁ ys (length p) (length-gcm_text f size iv p)
       (omega (arith, length-gcm_tag f size iv a (gcm_text f iv p))) first
       (es ∙ ap (λ (t : List ℕ). over t (take (length out₁ - length p) (drop (length p) out₁))) tagged)))
     where
-      counted : answer 0 (gcm_text f iv p) out ≡ (n, out₁)
-      counted = text-written p out short ran
-
       first : out₁ ≡ over (gcm_text f iv p) out
-      first = sym (ap (λ (x : ℕ × List ℕ). x.1) counted)
+      first = sym (ap (λ (x : ℕ × List ℕ). x.1) (text-written p out short ran))
 
       tagged : tag ≡ gcm_tag f iv a (gcm_text f iv p)
       tagged = et ∙ ap₂ (λ (v c : List ℕ). gcm_tag f v a c) front_is (over_front (gcm_text f iv p) out out₁ (length p) (length-gcm_text f size iv p) (omega arith) first)

@@ -1,11 +1,13 @@
-// The numbers that the arguments alone decide, in any mode and in both directions: 2, 4 and 5.
+// The refusals that the arguments alone decide, in any mode and in both directions: 2, 4 and 5.
 ghost use Rattle.std.specs.Prelude.{◌≡◌, List, ℕ, ◌+◌, ◌≤◌, length};
 ghost use Rattle.octets.specs.Lent.{lowest};
+ghost use Rattle.refusals.specs.Numbers.{outcome_number};
 ghost use Rattle.modes.specs.Modes.{mode_of};
 ghost use Rattle.modes.specs.Calls.{wrong_sizes, too_long, argument_tests, opening_number};
 
 use crate::sizes::{DATA_MAX, KEY_SIZE, TEXT_MAX};
 use crate::{iv_size, tag_size};
+use refusals::Refusal;
 
 // Whether the key or the IV has a length that is none of the mode's. Both modes permit a text of every length.
 pub(crate) fn wrong_sizes(u: u8, key: &[u8], iv: &[u8]) -> bool
@@ -27,32 +29,32 @@ fn too_long(a: &[u8], b: &[u8], text: &[u8]) -> bool
     TEXT_MAX < text.len()
 }
 
-// The first that applies, or 0: `wrong` where a length is none of the mode's, `more` the bytes that the result has beside the text's, `room` the output's length.
-pub(crate) fn argument_number(
+// The first that applies: `wrong` where a length is none of the mode's, `more` the bytes that the result has beside the text's, `room` the output's length.
+pub(crate) fn check_arguments(
     wrong: bool,
     a: &[u8],
     b: &[u8],
     text: &[u8],
     more: usize,
     room: usize,
-) -> u8
+) -> Result<(), Refusal>
     requires { more ≤ 64 }
-    ensures { result ≡ lowest (argument_tests wrong a.now b.now text.now (length text.now + more) room) }
+    ensures { outcome_number result ≡ lowest (argument_tests wrong a.now b.now text.now (length text.now + more) room) }
 {
     if wrong {
-        return 2;
+        return Err(Refusal::Layout);
     }
     if too_long(a, b, text) {
-        return 4;
+        return Err(Refusal::PastMaximum);
     }
     if room < text.len() + more {
-        return 5;
+        return Err(Refusal::NoRoom);
     }
-    0
+    Ok(())
 }
 
 // The same for decryption, whose tag has a length too and whose result is as long as the ciphertext.
-pub(crate) fn decrypt_number(
+pub(crate) fn check_decryption(
     u: u8,
     key: &[u8],
     iv: &[u8],
@@ -61,9 +63,9 @@ pub(crate) fn decrypt_number(
     c: &[u8],
     tag: &[u8],
     room: usize,
-) -> u8
-    ensures { result ≡ opening_number (mode_of u) key.now iv.now a.now b.now c.now tag.now room }
+) -> Result<(), Refusal>
+    ensures { outcome_number result ≡ opening_number (mode_of u) key.now iv.now a.now b.now c.now tag.now room }
 {
     let wrong = wrong_sizes(u, key, iv) | (tag.len() != tag_size(u));
-    argument_number(wrong, a, b, c, 0, room)
+    check_arguments(wrong, a, b, c, 0, room)
 }

@@ -5,6 +5,7 @@ ghost use Rattle.octets.specs.Blocks.{cut, chain};
 ghost use Rattle.octets.specs.Lent.{answer};
 ghost use Rattle.aes.specs.Cipher.{cipher};
 ghost use Rattle.aes_fast.specs.Right.{Ready};
+ghost use Rattle.refusals.specs.Numbers.{outcome_number};
 ghost use Rattle.modes.specs.Calls.{data_max, tag_decides};
 ghost use Rattle.modes.specs.Within.{SealsWith, VerifiesWith, OpensWith};
 ghost use Rattle.modes.specs.Counter.{counter_block, front_of};
@@ -14,13 +15,14 @@ use crate::counter::{counter, counter_block};
 use crate::passes::pass;
 use crate::short::open_short;
 use crate::sizes::SHORT;
-use crate::tag::tag_number;
+use crate::tag::check_tag;
 use aes::RoundKeys;
 use aes_fast::halves::block;
 use aes_fast::{Tables, encrypt_two};
 use cbc_mac::{absorb, close};
 use octets::big_endian::bytes16;
 use octets::strings::{Block, put, xor_blocks};
+use refusals::Refusal;
 
 // The flags of the first block: 7Ah with associated data, 3Ah without.
 fn flags_of(with_data: bool) -> u8
@@ -95,9 +97,9 @@ pub(crate) fn seal(
     b: &[u8],
     p: &[u8],
     out: &mut [u8],
-) -> u8
+) -> Result<(), Refusal>
     requires { SealsWith t.now ks.now iv.now a.now b.now p.now (length out.old) }
-    ensures { answer 0 (ccm_sealed (cipher ks.now) iv.now (a.now ++ b.now) p.now) out.old ≡ (result, out.new) }
+    ensures { answer 0 (ccm_sealed (cipher ks.now) iv.now (a.now ++ b.now) p.now) out.old ≡ (outcome_number result, out.new) }
 {
     let n = p.len();
     let base = base_of(iv);
@@ -107,10 +109,10 @@ pub(crate) fn seal(
     let z = pass(t, *ks, base, y, p, out, false, true);
     let tag = xor_blocks(z, pad);
     put(&mut out[n..], &tag);
-    0
+    Ok(())
 }
 
-// 9, or 0 where the tag is right. The pass is lent an output of no bytes: a plaintext that is not authentic has nowhere to go.
+// Refused where the tag is wrong. The pass is lent an output of no bytes: a plaintext that is not authentic has nowhere to go.
 pub(crate) fn verify(
     t: &Tables,
     ks: &RoundKeys,
@@ -119,9 +121,9 @@ pub(crate) fn verify(
     b: &[u8],
     c: &[u8],
     tag: &[u8],
-) -> u8
+) -> Result<(), Refusal>
     requires { VerifiesWith t.now ks.now iv.now a.now b.now c.now tag.now }
-    ensures { result ≡ tag_decides (ccm_tag_right (cipher ks.now) iv.now (a.now ++ b.now) c.now tag.now) }
+    ensures { outcome_number result ≡ tag_decides (ccm_tag_right (cipher ks.now) iv.now (a.now ++ b.now) c.now tag.now) }
 {
     let base = base_of(iv);
     let begun = chain_start(t, ks, base, a, b, c.len());
@@ -130,10 +132,10 @@ pub(crate) fn verify(
     let mut none = [0u8; 0];
     let z = pass(t, *ks, base, y, c, &mut none, true, false);
     let right = xor_blocks(z, pad);
-    tag_number(tag, &right)
+    check_tag(tag, &right)
 }
 
-// 9, or 0 with the plaintext.
+// The plaintext, where the tag is right.
 pub(crate) fn open(
     t: &Tables,
     ks: &RoundKeys,
@@ -143,9 +145,9 @@ pub(crate) fn open(
     c: &[u8],
     tag: &[u8],
     out: &mut [u8],
-) -> u8
+) -> Result<(), Refusal>
     requires { OpensWith t.now ks.now iv.now a.now b.now c.now tag.now (length out.old) }
-    ensures { ccm_opened (cipher ks.now) iv.now (a.now ++ b.now) c.now tag.now out.old ≡ (result, out.new) }
+    ensures { ccm_opened (cipher ks.now) iv.now (a.now ++ b.now) c.now tag.now out.old ≡ (outcome_number result, out.new) }
 {
     if c.len() <= SHORT {
         let base = base_of(iv);
@@ -154,9 +156,6 @@ pub(crate) fn open(
         let pad = begun.pad;
         return open_short(t, ks, base, y, pad, c, tag, out);
     }
-    let number = verify(t, ks, iv, a, b, c, tag);
-    if 0 < number {
-        return number;
-    }
+    verify(t, ks, iv, a, b, c, tag)?;
     counter(t, ks, base_of(iv), false, 1, c, out)
 }

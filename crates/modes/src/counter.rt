@@ -5,6 +5,7 @@ ghost use Rattle.octets.specs.Xor.{xors};
 ghost use Rattle.aes.specs.Cipher.{cipher};
 ghost use Rattle.aes_fast.specs.Right.{Ready};
 ghost use Rattle.aes_fast.specs.Halves.{halves_block};
+ghost use Rattle.refusals.specs.Numbers.{outcome_number};
 ghost use Rattle.modes.specs.Pads.{Serves};
 ghost use Rattle.modes.specs.Counter.{counter_block, ctr, with_pad, counter_fits, counter_answer, width, front_of};
 
@@ -13,6 +14,7 @@ use aes_fast::halves::{Halves, add_halves, halves_at, put_halves};
 use aes_fast::start::{Start, start_of};
 use aes_fast::{Tables, encrypt, encrypt_two_from};
 use octets::strings::{Block, put};
+use refusals::Refusal;
 
 pub(crate) fn counter_block(base: Block, wide: bool, i: usize) -> Block
     ensures { result ≡ counter_block (width wide) (front_of wide base) i }
@@ -181,7 +183,7 @@ fn add_pairs(
     add_rest(t, &ks, base, wide, k, &text[at..n], &mut out[at..n]);
 }
 
-// The text added to the key stream from counter i on, over the front of the output; 11, and nothing written, where the field would run over.
+// The text added to the key stream from counter i on, over the front of the output; refused, and nothing written, where the field would run over.
 pub(crate) fn counter(
     t: &Tables,
     ks: &RoundKeys,
@@ -190,13 +192,13 @@ pub(crate) fn counter(
     i: usize,
     text: &[u8],
     out: &mut [u8],
-) -> u8
+) -> Result<(), Refusal>
     requires { Ready t.now ks.now × (length text.now ≤ length out.old) × (i ≤ 2) }
-    ensures { counter_answer (cipher ks.now) (width wide) (front_of wide base) i text.now out.old ≡ (result, out.new) }
+    ensures { counter_answer (cipher ks.now) (width wide) (front_of wide base) i text.now out.old ≡ (outcome_number result, out.new) }
 {
     let n = text.len();
     if runs_over(wide, i, n) {
-        return 11;
+        return Err(Refusal::CounterRunsOver);
     }
     let head = least(16 * (i % 2), n);
     add_single(t, ks, base, wide, i, &text[..head], &mut out[..head]);
@@ -209,5 +211,5 @@ pub(crate) fn counter(
         &text[head..n],
         &mut out[head..n],
     );
-    0
+    Ok(())
 }

@@ -4,18 +4,20 @@ ghost use Rattle.octets.specs.BigEndian.{be};
 ghost use Rattle.octets.specs.Lent.{answer};
 ghost use Rattle.aes.specs.Cipher.{cipher};
 ghost use Rattle.aes_fast.specs.Right.{Ready};
+ghost use Rattle.refusals.specs.Numbers.{outcome_number};
 ghost use Rattle.modes.specs.Calls.{data_max, text_max, tag_decides};
 ghost use Rattle.modes.specs.Within.{SealsWith, VerifiesWith, OpensWith};
 ghost use Rattle.modes.specs.Counter.{front_of};
 ghost use Rattle.modes.specs.Gcm.{gcm_tag, gcm_tag_right, gcm_sealed, gcm_opened};
 
 use crate::counter::{counter, counter_block};
-use crate::tag::tag_number;
+use crate::tag::check_tag;
 use aes::RoundKeys;
 use aes_fast::halves::block;
 use aes_fast::{Tables, encrypt_two};
 use ghash::hash::ghash_parts;
 use octets::strings::{Block, first16, put, xor_blocks};
+use refusals::Refusal;
 
 // The counter blocks' front, with a field of zeros.
 fn base_of(iv: &[u8]) -> Block
@@ -56,19 +58,19 @@ pub(crate) fn seal(
     b: &[u8],
     p: &[u8],
     out: &mut [u8],
-) -> u8
+) -> Result<(), Refusal>
     requires { SealsWith t.now ks.now iv.now a.now b.now p.now (length out.old) }
-    ensures { answer 0 (gcm_sealed (cipher ks.now) iv.now (a.now ++ b.now) p.now) out.old ≡ (result, out.new) }
+    ensures { answer 0 (gcm_sealed (cipher ks.now) iv.now (a.now ++ b.now) p.now) out.old ≡ (outcome_number result, out.new) }
 {
     let n = p.len();
     let base = base_of(iv);
-    let number = counter(t, ks, base, true, 2, p, out);
+    counter(t, ks, base, true, 2, p, out)?;
     let tag = tag_of(t, ks, base, a, b, &out[..n]);
     put(&mut out[n..], &tag);
-    number
+    Ok(())
 }
 
-// 9, or 0 where the tag is right.
+// Refused where the tag is wrong.
 pub(crate) fn verify(
     t: &Tables,
     ks: &RoundKeys,
@@ -77,15 +79,15 @@ pub(crate) fn verify(
     b: &[u8],
     c: &[u8],
     tag: &[u8],
-) -> u8
+) -> Result<(), Refusal>
     requires { VerifiesWith t.now ks.now iv.now a.now b.now c.now tag.now }
-    ensures { result ≡ tag_decides (gcm_tag_right (cipher ks.now) iv.now (a.now ++ b.now) c.now tag.now) }
+    ensures { outcome_number result ≡ tag_decides (gcm_tag_right (cipher ks.now) iv.now (a.now ++ b.now) c.now tag.now) }
 {
     let right = tag_of(t, ks, base_of(iv), a, b, c);
-    tag_number(tag, &right)
+    check_tag(tag, &right)
 }
 
-// 9, or 0 with the plaintext. The output is lent on only after the tag was found right.
+// The plaintext, where the tag is right. The output is lent on only after the tag was found right.
 pub(crate) fn open(
     t: &Tables,
     ks: &RoundKeys,
@@ -95,13 +97,10 @@ pub(crate) fn open(
     c: &[u8],
     tag: &[u8],
     out: &mut [u8],
-) -> u8
+) -> Result<(), Refusal>
     requires { OpensWith t.now ks.now iv.now a.now b.now c.now tag.now (length out.old) }
-    ensures { gcm_opened (cipher ks.now) iv.now (a.now ++ b.now) c.now tag.now out.old ≡ (result, out.new) }
+    ensures { gcm_opened (cipher ks.now) iv.now (a.now ++ b.now) c.now tag.now out.old ≡ (outcome_number result, out.new) }
 {
-    let number = verify(t, ks, iv, a, b, c, tag);
-    if 0 < number {
-        return number;
-    }
+    verify(t, ks, iv, a, b, c, tag)?;
     counter(t, ks, base_of(iv), true, 2, c, out)
 }

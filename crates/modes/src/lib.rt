@@ -12,14 +12,16 @@ mod tag;
 
 ghost use Rattle.std.specs.Prelude.{◌≡◌, ◌++◌, length};
 ghost use Rattle.octets.specs.Lent.{answer};
+ghost use Rattle.refusals.specs.Numbers.{outcome_number};
 ghost use Rattle.modes.specs.Mode.{sealed};
 ghost use Rattle.modes.specs.Modes.{names_mode, mode_of};
 ghost use Rattle.modes.specs.Calls.{Sealable, Verifiable, Openable, tag_decides, encrypt_answer, decrypt_opened, decrypt_answer, verify_number};
 
 use aes::expand_key;
 use aes_fast::round_tables;
-use arguments::{argument_number, decrypt_number, wrong_sizes};
+use arguments::{check_arguments, check_decryption, wrong_sizes};
 use octets::strings::first32;
+use refusals::Refusal;
 use sizes::{CCM, GCM, IV_SIZE, TAG_SIZE};
 
 // Whether the byte names a mode: 1 CCM, 2 GCM.
@@ -43,9 +45,17 @@ pub fn tag_size(u: u8) -> usize
 }
 
 // The tables and the round keys are made once, and lent down.
-fn seal(u: u8, key: &[u8], iv: &[u8], a: &[u8], b: &[u8], plain: &[u8], out: &mut [u8]) -> u8
+fn seal(
+    u: u8,
+    key: &[u8],
+    iv: &[u8],
+    a: &[u8],
+    b: &[u8],
+    plain: &[u8],
+    out: &mut [u8],
+) -> Result<(), Refusal>
     requires { Sealable key.now iv.now a.now b.now plain.now (length out.old) }
-    ensures { answer 0 (sealed (mode_of u) key.now iv.now (a.now ++ b.now) plain.now) out.old ≡ (result, out.new) }
+    ensures { answer 0 (sealed (mode_of u) key.now iv.now (a.now ++ b.now) plain.now) out.old ≡ (outcome_number result, out.new) }
 {
     let t = round_tables();
     let ks = expand_key(first32(key));
@@ -55,9 +65,17 @@ fn seal(u: u8, key: &[u8], iv: &[u8], a: &[u8], b: &[u8], plain: &[u8], out: &mu
     ccm::seal(&t, &ks, iv, a, b, plain, out)
 }
 
-fn check_tag(u: u8, key: &[u8], iv: &[u8], a: &[u8], b: &[u8], c: &[u8], tag: &[u8]) -> u8
+fn check_tag(
+    u: u8,
+    key: &[u8],
+    iv: &[u8],
+    a: &[u8],
+    b: &[u8],
+    c: &[u8],
+    tag: &[u8],
+) -> Result<(), Refusal>
     requires { Verifiable key.now iv.now a.now b.now c.now tag.now }
-    ensures { result ≡ tag_decides ((mode_of u).authentic key.now iv.now (a.now ++ b.now) c.now tag.now) }
+    ensures { outcome_number result ≡ tag_decides ((mode_of u).authentic key.now iv.now (a.now ++ b.now) c.now tag.now) }
 {
     let t = round_tables();
     let ks = expand_key(first32(key));
@@ -76,9 +94,9 @@ fn open(
     c: &[u8],
     tag: &[u8],
     out: &mut [u8],
-) -> u8
+) -> Result<(), Refusal>
     requires { Openable key.now iv.now a.now b.now c.now tag.now (length out.old) }
-    ensures { decrypt_opened (mode_of u) key.now iv.now (a.now ++ b.now) c.now tag.now out.old ≡ (result, out.new) }
+    ensures { decrypt_opened (mode_of u) key.now iv.now (a.now ++ b.now) c.now tag.now out.old ≡ (outcome_number result, out.new) }
 {
     let t = round_tables();
     let ks = expand_key(first32(key));
@@ -89,13 +107,18 @@ fn open(
 }
 
 // Over associated data that comes in two parts.
-pub fn encrypt(u: u8, key: &[u8], iv: &[u8], a: &[u8], b: &[u8], plain: &[u8], out: &mut [u8]) -> u8
-    ensures { encrypt_answer (mode_of u) key.now iv.now a.now b.now plain.now out.old ≡ (result, out.new) }
+pub fn encrypt(
+    u: u8,
+    key: &[u8],
+    iv: &[u8],
+    a: &[u8],
+    b: &[u8],
+    plain: &[u8],
+    out: &mut [u8],
+) -> Result<(), Refusal>
+    ensures { encrypt_answer (mode_of u) key.now iv.now a.now b.now plain.now out.old ≡ (outcome_number result, out.new) }
 {
-    let number = argument_number(wrong_sizes(u, key, iv), a, b, plain, tag_size(u), out.len());
-    if number != 0 {
-        return number;
-    }
+    check_arguments(wrong_sizes(u, key, iv), a, b, plain, tag_size(u), out.len())?;
     seal(u, key, iv, a, b, plain, out)
 }
 
@@ -108,23 +131,25 @@ pub fn decrypt(
     c: &[u8],
     tag: &[u8],
     out: &mut [u8],
-) -> u8
-    ensures { decrypt_answer (mode_of u) key.now iv.now a.now b.now c.now tag.now out.old ≡ (result, out.new) }
+) -> Result<(), Refusal>
+    ensures { decrypt_answer (mode_of u) key.now iv.now a.now b.now c.now tag.now out.old ≡ (outcome_number result, out.new) }
 {
-    let number = decrypt_number(u, key, iv, a, b, c, tag, out.len());
-    if number != 0 {
-        return number;
-    }
+    check_decryption(u, key, iv, a, b, c, tag, out.len())?;
     open(u, key, iv, a, b, c, tag, out)
 }
 
-// The number that decryption gives where there is room for the plaintext; nothing is written.
-pub fn verify(u: u8, key: &[u8], iv: &[u8], a: &[u8], b: &[u8], c: &[u8], tag: &[u8]) -> u8
-    ensures { result ≡ verify_number (mode_of u) key.now iv.now a.now b.now c.now tag.now }
+// What decryption answers where there is room for the plaintext; nothing is written.
+pub fn verify(
+    u: u8,
+    key: &[u8],
+    iv: &[u8],
+    a: &[u8],
+    b: &[u8],
+    c: &[u8],
+    tag: &[u8],
+) -> Result<(), Refusal>
+    ensures { outcome_number result ≡ verify_number (mode_of u) key.now iv.now a.now b.now c.now tag.now }
 {
-    let number = decrypt_number(u, key, iv, a, b, c, tag, c.len());
-    if number != 0 {
-        return number;
-    }
+    check_decryption(u, key, iv, a, b, c, tag, c.len())?;
     check_tag(u, key, iv, a, b, c, tag)
 }

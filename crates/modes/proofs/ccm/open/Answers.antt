@@ -1,7 +1,6 @@
 -- `modes::ccm::open` meets its contract: a short text by its pads; else the tag decides, and then the plaintext that the ciphertext gives is written.
 -- Assumes nothing.
 use mathlib.Core.List.{◌++◌}
-use native.Mathlib.Omega.{arith}
 use Rattle.aes.specs.Cipher.{cipher}
 use Rattle.aes.proofs.Laws.{cipher-length}
 use Rattle.modes.specs.Ccm.{ccm_text}
@@ -19,6 +18,6 @@ returns-then-c-le-SHORT c =
 pub returns : goal.returns
 returns c =
     let a = c.args in
-    answer_passed (ccm_text (cipher a.ks.now) a.iv.now a.c.now) a.out.now c.verify-number.ensures (omega arith)
+    answer_passed (ccm_text (cipher a.ks.now) a.iv.now a.c.now) a.out.now c.in_ok-verify.ensures
     (text-written (cipher a.ks.now) (cipher-length a.ks.now) a.iv.now (a.a.now ++ a.b.now) c.requires.0.1 c.base_of.ensures
     a.c.now a.out.now c.requires.0.3 c.counter.ensures)

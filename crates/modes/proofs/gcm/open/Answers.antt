@@ -1,7 +1,6 @@
 -- `modes::gcm::open` meets its contract: the tag decides, and then the plaintext is written.
 -- Assumes nothing.
 use mathlib.Core.List.{◌++◌}
-use native.Mathlib.Omega.{arith}
 use Rattle.aes.specs.Cipher.{cipher}
 use Rattle.aes.proofs.Laws.{cipher-length}
 use Rattle.modes.specs.Gcm.{gcm_text}
@@ -12,6 +11,6 @@ use Rattle.modes.proofs.gcm.open.Goals as goal
 pub returns : goal.returns
 returns c =
     let a = c.args in
-    answer_passed (gcm_text (cipher a.ks.now) a.iv.now a.c.now) a.out.now c.verify-number.ensures (omega arith)
+    answer_passed (gcm_text (cipher a.ks.now) a.iv.now a.c.now) a.out.now c.in_ok-verify.ensures
     (text-written (cipher a.ks.now) (cipher-length a.ks.now) a.iv.now (a.a.now ++ a.b.now) c.requires.0.1 c.base_of.ensures
     a.c.now a.out.now c.requires.0.3 c.counter.ensures)

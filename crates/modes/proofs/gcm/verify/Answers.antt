@@ -10,4 +10,4 @@ pub returns : goal.returns
 returns c =
     let a = c.args in
     opened-number (cipher a.ks.now) (cipher-length a.ks.now) a.iv.now (a.a.now ++ a.b.now) c.requires.1 c.base_of.ensures
-    a.c.now a.tag.now c.tag_of-right.ensures c.tag_number.ensures
+    a.c.now a.tag.now c.tag_of-right.ensures c.check_tag.ensures

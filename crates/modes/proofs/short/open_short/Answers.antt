@@ -1,7 +1,6 @@
 -- `modes::short::open_short` meets its contract: the pass keeps the pads, the tag decides, and then the sum of the ciphertext and the pads is written.
 -- Assumes nothing.
 use mathlib.Core.Bool.{false}
-use native.Mathlib.Omega.{arith}
 use Rattle.aes.specs.Cipher.{cipher}
 use Rattle.aes.proofs.Laws.{cipher-length}
 use Rattle.modes.specs.Counter.{ctr, front_of}
@@ -17,6 +16,5 @@ returns c =
     let front = front_of false a.base in
     answer_passed (ctr F 3 front 1 a.c.now) a.out.now
     (short-number F (cipher-length a.ks.now) front a.c.now a.tag.now a.y c.pass-z.ensures.value c.requires.3 c.xor_blocks-right.ensures
-    c.tag_number-number.ensures)
-    (omega arith)
+    c.in_ok-check_tag.ensures)
     (short-put F (cipher-length a.ks.now) front a.c.now short_max c.requires.1 c.pass-z.ensures.out_after a.out.now c.put_sum.ensures)

@@ -1,7 +1,7 @@
--- `modes::tag::tag_number` meets its contract: all of both strings is compared.
+-- `modes::tag::check_tag` meets its contract: all of both strings is compared.
 -- Assumes nothing.
 use mathlib.Core.Path.{sym, ◌∙◌}
-use Rattle.modes.proofs.tag.tag_number.Goals as goal
+use Rattle.modes.proofs.tag.check_tag.Goals as goal
 
 pub returns-then-equal : goal.returns-then-equal
 returns-then-equal c = rw (sym c.equal.ensures ∙ c.if-equal.true)

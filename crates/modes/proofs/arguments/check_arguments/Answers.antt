@@ -1,8 +1,8 @@
--- `modes::arguments::argument_number` meets its contract: each return has the tests that led there.
+-- `modes::arguments::check_arguments` meets its contract: each return has the tests that led there.
 -- Assumes nothing.
 use mathlib.Core.Path.{sym, ◌∙◌}
 use borrow.Author.Tests.{lt-ltb, le-ltb}
-use Rattle.modes.proofs.arguments.argument_number.Goals as goal
+use Rattle.modes.proofs.arguments.check_arguments.Goals as goal
 
 pub returns-then-too_long : goal.returns-then-too_long
 returns-then-too_long c = rw (c.if-wrong.false, sym c.too_long.ensures ∙ c.if-too_long.true)
