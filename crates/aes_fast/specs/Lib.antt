@@ -4,4 +4,5 @@ pub mod Halves
 pub mod FourWords
 pub mod ThreeWords
 pub mod Start
+pub mod OneProof
 pub mod Laws

@@ -4,21 +4,19 @@ ghost use Rattle.octets.specs.BigEndian.{be};
 ghost use Rattle.octets.specs.Blocks.{cut, chain};
 ghost use Rattle.octets.specs.Lent.{answer};
 ghost use Rattle.aes.specs.Cipher.{cipher};
-ghost use Rattle.aes_fast.specs.Right.{Ready};
 ghost use Rattle.refusals.specs.Numbers.{outcome_number};
 ghost use Rattle.modes.specs.Calls.{data_max, tag_decides};
 ghost use Rattle.modes.specs.Within.{SealsWith, VerifiesWith, OpensWith};
 ghost use Rattle.modes.specs.Counter.{counter_block, front_of};
 ghost use Rattle.modes.specs.Ccm.{flags, data_blocks, chain_start, counter_front, ccm_tag_right, ccm_sealed, ccm_opened};
 
+use crate::cipher::Cipher;
 use crate::counter::{counter, counter_block};
 use crate::passes::pass;
 use crate::short::open_short;
 use crate::sizes::SHORT;
 use crate::tag::check_tag;
-use aes::RoundKeys;
 use aes_fast::halves::block;
-use aes_fast::{Tables, encrypt_two};
 use cbc_mac::{absorb, close};
 use octets::big_endian::bytes16;
 use octets::strings::{Block, put, xor_blocks};
@@ -53,19 +51,19 @@ fn first_block(base: Block, with_data: bool, n: usize) -> Block
 }
 
 // The chain after the associated data, which is a and then b.
-fn chain_data(t: &Tables, ks: &RoundKeys, y: Block, a: &[u8], b: &[u8]) -> Block
-    requires { Ready t.now ks.now × (length a.now + length b.now ≤ data_max) }
-    ensures { result ≡ chain (cipher ks.now) y (data_blocks (a.now ++ b.now)) }
+fn chain_data(aes: Cipher, y: Block, a: &[u8], b: &[u8]) -> Block
+    requires { (length a.now + length b.now ≤ data_max) }
+    ensures { result ≡ chain (cipher aes.entry.keyed.keys.now) y (data_blocks (a.now ++ b.now)) }
 {
     let n = a.len() + b.len();
     if n == 0 {
         return y;
     }
     let size = bytes16(n);
-    let x = absorb(t, ks, 0, y, &size);
-    let u = absorb(t, ks, 2, x, a);
-    let v = absorb(t, ks, 2 + a.len(), u, b);
-    close(t, ks, 2 + n, v)
+    let x = absorb(aes.keyed, 0, y, &size);
+    let u = absorb(aes.keyed, 2, x, a);
+    let v = absorb(aes.keyed, 2 + a.len(), u, b);
+    close(aes.keyed, 2 + n, v)
 }
 
 // The chain's state before the payload, and S0.
@@ -76,37 +74,36 @@ struct Begun {
 }
 
 // The chain up to the payload, of n bytes. The first block is ciphered beside counter block 0.
-fn chain_start(t: &Tables, ks: &RoundKeys, base: Block, a: &[u8], b: &[u8], n: usize) -> Begun
-    requires { Ready t.now ks.now × (length a.now + length b.now ≤ data_max) }
-    ensures chain_value { result.chain ≡ chain_start (cipher ks.now) (drop 1 (front_of false base)) (a.now ++ b.now) n }
-    ensures pad_value { result.pad ≡ cipher ks.now (counter_block 3 (front_of false base) 0) }
+fn chain_start(aes: Cipher, base: Block, a: &[u8], b: &[u8], n: usize) -> Begun
+    requires { (length a.now + length b.now ≤ data_max) }
+    ensures chain_value { result.chain ≡ chain_start (cipher aes.entry.keyed.keys.now) (drop 1 (front_of false base)) (a.now ++ b.now) n }
+    ensures pad_value { result.pad ≡ cipher aes.entry.keyed.keys.now (counter_block 3 (front_of false base) 0) }
 {
     let with_data = a.len() + b.len() != 0;
     let first = first_block(base, with_data, n);
-    let both = encrypt_two(t, ks, first, counter_block(base, false, 0));
-    let chain = chain_data(t, ks, block(both.one), a, b);
+    let both = aes.encrypt_two(first, counter_block(base, false, 0));
+    let chain = chain_data(aes, block(both.one), a, b);
     let pad = block(both.other);
     Begun { chain, pad }
 }
 
 pub(crate) fn seal(
-    t: &Tables,
-    ks: &RoundKeys,
+    aes: Cipher,
     iv: &[u8],
     a: &[u8],
     b: &[u8],
     p: &[u8],
     out: &mut [u8],
 ) -> Result<(), Refusal>
-    requires { SealsWith t.now ks.now iv.now a.now b.now p.now (length out.old) }
-    ensures { answer 0 (ccm_sealed (cipher ks.now) iv.now (a.now ++ b.now) p.now) out.old ≡ (outcome_number result, out.new) }
+    requires { SealsWith iv.now a.now b.now p.now (length out.old) }
+    ensures { answer 0 (ccm_sealed (cipher aes.entry.keyed.keys.now) iv.now (a.now ++ b.now) p.now) out.old ≡ (outcome_number result, out.new) }
 {
     let n = p.len();
     let base = base_of(iv);
-    let begun = chain_start(t, ks, base, a, b, n);
+    let begun = chain_start(aes, base, a, b, n);
     let y = begun.chain;
     let pad = begun.pad;
-    let z = pass(t, *ks, base, y, p, out, false, true);
+    let z = pass(aes, base, y, p, out, false, true);
     let tag = xor_blocks(z, pad);
     put(&mut out[n..], &tag);
     Ok(())
@@ -114,31 +111,29 @@ pub(crate) fn seal(
 
 // Refused where the tag is wrong. The pass is lent an output of no bytes: a plaintext that is not authentic has nowhere to go.
 pub(crate) fn verify(
-    t: &Tables,
-    ks: &RoundKeys,
+    aes: Cipher,
     iv: &[u8],
     a: &[u8],
     b: &[u8],
     c: &[u8],
     tag: &[u8],
 ) -> Result<(), Refusal>
-    requires { VerifiesWith t.now ks.now iv.now a.now b.now c.now tag.now }
-    ensures { outcome_number result ≡ tag_decides (ccm_tag_right (cipher ks.now) iv.now (a.now ++ b.now) c.now tag.now) }
+    requires { VerifiesWith iv.now a.now b.now c.now tag.now }
+    ensures { outcome_number result ≡ tag_decides (ccm_tag_right (cipher aes.entry.keyed.keys.now) iv.now (a.now ++ b.now) c.now tag.now) }
 {
     let base = base_of(iv);
-    let begun = chain_start(t, ks, base, a, b, c.len());
+    let begun = chain_start(aes, base, a, b, c.len());
     let y = begun.chain;
     let pad = begun.pad;
     let mut none = [0u8; 0];
-    let z = pass(t, *ks, base, y, c, &mut none, true, false);
+    let z = pass(aes, base, y, c, &mut none, true, false);
     let right = xor_blocks(z, pad);
     check_tag(tag, &right)
 }
 
 // The plaintext, where the tag is right.
 pub(crate) fn open(
-    t: &Tables,
-    ks: &RoundKeys,
+    aes: Cipher,
     iv: &[u8],
     a: &[u8],
     b: &[u8],
@@ -146,16 +141,16 @@ pub(crate) fn open(
     tag: &[u8],
     out: &mut [u8],
 ) -> Result<(), Refusal>
-    requires { OpensWith t.now ks.now iv.now a.now b.now c.now tag.now (length out.old) }
-    ensures { ccm_opened (cipher ks.now) iv.now (a.now ++ b.now) c.now tag.now out.old ≡ (outcome_number result, out.new) }
+    requires { OpensWith iv.now a.now b.now c.now tag.now (length out.old) }
+    ensures { ccm_opened (cipher aes.entry.keyed.keys.now) iv.now (a.now ++ b.now) c.now tag.now out.old ≡ (outcome_number result, out.new) }
 {
     if c.len() <= SHORT {
         let base = base_of(iv);
-        let begun = chain_start(t, ks, base, a, b, c.len());
+        let begun = chain_start(aes, base, a, b, c.len());
         let y = begun.chain;
         let pad = begun.pad;
-        return open_short(t, ks, base, y, pad, c, tag, out);
+        return open_short(aes, base, y, pad, c, tag, out);
     }
-    verify(t, ks, iv, a, b, c, tag)?;
-    counter(t, ks, base_of(iv), false, 1, c, out)
+    verify(aes, iv, a, b, c, tag)?;
+    counter(aes, base_of(iv), false, 1, c, out)
 }

@@ -3,16 +3,15 @@ ghost use Rattle.std.specs.Prelude.{◌≡◌, not, ◌+◌, ◌%◌, ◌≤◌,
 ghost use Rattle.octets.specs.Blocks.{fill};
 ghost use Rattle.octets.specs.Xor.{xors};
 ghost use Rattle.aes.specs.Cipher.{cipher};
-ghost use Rattle.aes_fast.specs.Right.{Ready};
 ghost use Rattle.aes_fast.specs.Halves.{halves_block};
 ghost use Rattle.refusals.specs.Numbers.{outcome_number};
 ghost use Rattle.modes.specs.Pads.{Serves};
 ghost use Rattle.modes.specs.Counter.{counter_block, ctr, with_pad, counter_fits, counter_answer, width, front_of};
 
-use aes::RoundKeys;
+use crate::cipher::Cipher;
+use aes_fast::Keyed;
 use aes_fast::halves::{Halves, add_halves, halves_at, put_halves};
-use aes_fast::start::{Start, start_of};
-use aes_fast::{Tables, encrypt, encrypt_two_from};
+use aes_fast::start::Start;
 use octets::strings::{Block, put};
 use refusals::Refusal;
 
@@ -72,48 +71,32 @@ fn add_at(text: &[u8], at: usize, pad: Halves, out: &mut [u8])
 }
 
 // What the counters share that differ from k in the last byte alone.
-pub(crate) fn start_at(t: &Tables, ks: &RoundKeys, base: Block, wide: bool, k: usize) -> Start
-    requires { Ready t.now ks.now }
-    ensures { Serves t.now ks.now (width wide) (front_of wide base) result k }
+pub(crate) fn start_at(aes: Cipher, base: Block, wide: bool, k: usize) -> Start
+    ensures { Serves aes.entry.keyed.tables.now aes.entry.keyed.keys.now (width wide) (front_of wide base) result k }
 {
-    start_of(t, ks, counter_block(base, wide, k))
+    aes.keyed.start_of(counter_block(base, wide, k))
 }
 
 // The start for the counter after k, from that for k.
-pub(crate) fn renewed(
-    t: &Tables,
-    ks: &RoundKeys,
-    base: Block,
-    wide: bool,
-    s: Start,
-    k: usize,
-) -> Start
-    requires { Ready t.now ks.now × (k < 18446744073709551615) × Serves t.now ks.now (width wide) (front_of wide base) s k }
-    ensures { Serves t.now ks.now (width wide) (front_of wide base) result (k + 1) }
+pub(crate) fn renewed(aes: Cipher, base: Block, wide: bool, s: Start, k: usize) -> Start
+    requires { (k < 18446744073709551615) × Serves aes.keyed.tables.now aes.keyed.keys.now (width wide) (front_of wide base) s k }
+    ensures { Serves aes.entry.keyed.tables.now aes.entry.keyed.keys.now (width wide) (front_of wide base) result (k + 1) }
 {
     if (k + 1) % 256 == 0 {
-        return start_at(t, ks, base, wide, k + 1);
+        return start_at(aes, base, wide, k + 1);
     }
     s
 }
 
 // A block or less, with counter k.
-fn add_single(
-    t: &Tables,
-    ks: &RoundKeys,
-    base: Block,
-    wide: bool,
-    k: usize,
-    text: &[u8],
-    out: &mut [u8],
-)
-    requires { Ready t.now ks.now × (length text.now ≤ 16) × (length out.old ≡ length text.now) }
-    ensures { out.new ≡ ctr (cipher ks.now) (width wide) (front_of wide base) k text.now }
+fn add_single(aes: Cipher, base: Block, wide: bool, k: usize, text: &[u8], out: &mut [u8])
+    requires { (length text.now ≤ 16) × (length out.old ≡ length text.now) }
+    ensures { out.new ≡ ctr (cipher aes.entry.keyed.keys.now) (width wide) (front_of wide base) k text.now }
 {
     if text.len() == 0 {
         return;
     }
-    let sum = summed(text, encrypt(t, ks, counter_block(base, wide, k)));
+    let sum = summed(text, aes.encrypt(counter_block(base, wide, k)));
     put(out, &sum);
 }
 
@@ -124,24 +107,15 @@ fn least(a: usize, b: usize) -> usize
 }
 
 // Less than two blocks, from counter i on.
-fn add_rest(
-    t: &Tables,
-    ks: &RoundKeys,
-    base: Block,
-    wide: bool,
-    i: usize,
-    text: &[u8],
-    out: &mut [u8],
-)
-    requires { Ready t.now ks.now × (length text.now < 32) × (length out.old ≡ length text.now) × (i < 18446744073709551615) }
-    ensures { out.new ≡ ctr (cipher ks.now) (width wide) (front_of wide base) i text.now }
+fn add_rest(aes: Cipher, base: Block, wide: bool, i: usize, text: &[u8], out: &mut [u8])
+    requires { (length text.now < 32) × (length out.old ≡ length text.now) × (i < 18446744073709551615) }
+    ensures { out.new ≡ ctr (cipher aes.entry.keyed.keys.now) (width wide) (front_of wide base) i text.now }
 {
     let n = text.len();
     let middle = least(16, n);
-    add_single(t, ks, base, wide, i, &text[..middle], &mut out[..middle]);
+    add_single(aes, base, wide, i, &text[..middle], &mut out[..middle]);
     add_single(
-        t,
-        ks,
+        aes,
         base,
         wide,
         i + 1,
@@ -151,60 +125,60 @@ fn add_rest(
 }
 
 // Two blocks a call, and then what is left, from an even counter i on: a pair's counters differ in the last byte alone.
-fn add_pairs(
-    t: &Tables,
-    ks: RoundKeys,
-    base: Block,
-    wide: bool,
-    i: usize,
-    text: &[u8],
-    out: &mut [u8],
-)
-    requires { Ready t.now ks × (length out.old ≡ length text.now) × (i % 2 ≡ 0) × (i ≤ 3) }
-    ensures { out.new ≡ ctr (cipher ks) (width wide) (front_of wide base) i text.now }
+fn add_pairs(aes: Cipher, base: Block, wide: bool, i: usize, text: &[u8], out: &mut [u8])
+    requires { (length out.old ≡ length text.now) × (i % 2 ≡ 0) × (i ≤ 3) }
+    ensures { out.new ≡ ctr (cipher aes.entry.keyed.keys.now) (width wide) (front_of wide base) i text.now }
 {
     let n = text.len();
     let mut at = 0;
     let mut k = i;
-    let mut s = start_at(t, &ks, base, wide, i);
+    // The round keys by value, in this function's own frame: docs/DECISIONS.md.
+    let keys = *aes.keyed.keys;
+    let own = Cipher {
+        keyed: Keyed {
+            tables: aes.keyed.tables,
+            keys: &keys,
+        },
+    };
+    let mut s = start_at(own, base, wide, i);
     while 32 <= n - at {
         let next = at + 16;
         let later = k + 1;
-        let pads = encrypt_two_from(t, &ks, s, (k % 256) as u8, (later % 256) as u8);
+        let pads = own
+            .keyed
+            .encrypt_two_from(s, (k % 256) as u8, (later % 256) as u8);
         add_at(text, at, pads.one, out);
         add_at(text, next, pads.other, out);
         at = next + 16;
         k = later + 1;
         if k % 256 == 0 {
-            let v = start_at(t, &ks, base, wide, k);
+            let v = start_at(own, base, wide, k);
             s = v;
         }
     }
-    add_rest(t, &ks, base, wide, k, &text[at..n], &mut out[at..n]);
+    add_rest(own, base, wide, k, &text[at..n], &mut out[at..n]);
 }
 
 // The text added to the key stream from counter i on, over the front of the output; refused, and nothing written, where the field would run over.
 pub(crate) fn counter(
-    t: &Tables,
-    ks: &RoundKeys,
+    aes: Cipher,
     base: Block,
     wide: bool,
     i: usize,
     text: &[u8],
     out: &mut [u8],
 ) -> Result<(), Refusal>
-    requires { Ready t.now ks.now × (length text.now ≤ length out.old) × (i ≤ 2) }
-    ensures { counter_answer (cipher ks.now) (width wide) (front_of wide base) i text.now out.old ≡ (outcome_number result, out.new) }
+    requires { (length text.now ≤ length out.old) × (i ≤ 2) }
+    ensures { counter_answer (cipher aes.entry.keyed.keys.now) (width wide) (front_of wide base) i text.now out.old ≡ (outcome_number result, out.new) }
 {
     let n = text.len();
     if runs_over(wide, i, n) {
         return Err(Refusal::CounterRunsOver);
     }
     let head = least(16 * (i % 2), n);
-    add_single(t, ks, base, wide, i, &text[..head], &mut out[..head]);
+    add_single(aes, base, wide, i, &text[..head], &mut out[..head]);
     add_pairs(
-        t,
-        *ks,
+        aes,
         base,
         wide,
         i + i % 2,

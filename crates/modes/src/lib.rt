@@ -3,6 +3,7 @@
 
 mod arguments;
 mod ccm;
+mod cipher;
 mod counter;
 mod gcm;
 mod passes;
@@ -18,8 +19,9 @@ ghost use Rattle.modes.specs.Modes.{names_mode, mode_of};
 ghost use Rattle.modes.specs.Calls.{Sealable, Verifiable, Openable, tag_decides, encrypt_answer, decrypt_opened, decrypt_answer, verify_number};
 
 use aes::expand_key;
-use aes_fast::round_tables;
+use aes_fast::{Keyed, round_tables};
 use arguments::{check_arguments, check_decryption, wrong_sizes};
+use cipher::Cipher;
 use octets::strings::first32;
 use refusals::Refusal;
 use sizes::{CCM, GCM, IV_SIZE, TAG_SIZE};
@@ -57,12 +59,18 @@ fn seal(
     requires { Sealable key.now iv.now a.now b.now plain.now (length out.old) }
     ensures { answer 0 (sealed (mode_of u) key.now iv.now (a.now ++ b.now) plain.now) out.old ≡ (outcome_number result, out.new) }
 {
-    let t = round_tables();
-    let ks = expand_key(first32(key));
+    let tables = round_tables();
+    let keys = expand_key(first32(key));
+    let cipher = Cipher {
+        keyed: Keyed {
+            tables: &tables,
+            keys: &keys,
+        },
+    };
     if u == GCM {
-        return gcm::seal(&t, &ks, iv, a, b, plain, out);
+        return gcm::seal(cipher, iv, a, b, plain, out);
     }
-    ccm::seal(&t, &ks, iv, a, b, plain, out)
+    ccm::seal(cipher, iv, a, b, plain, out)
 }
 
 fn check_tag(
@@ -77,12 +85,18 @@ fn check_tag(
     requires { Verifiable key.now iv.now a.now b.now c.now tag.now }
     ensures { outcome_number result ≡ tag_decides ((mode_of u).authentic key.now iv.now (a.now ++ b.now) c.now tag.now) }
 {
-    let t = round_tables();
-    let ks = expand_key(first32(key));
+    let tables = round_tables();
+    let keys = expand_key(first32(key));
+    let cipher = Cipher {
+        keyed: Keyed {
+            tables: &tables,
+            keys: &keys,
+        },
+    };
     if u == GCM {
-        return gcm::verify(&t, &ks, iv, a, b, c, tag);
+        return gcm::verify(cipher, iv, a, b, c, tag);
     }
-    ccm::verify(&t, &ks, iv, a, b, c, tag)
+    ccm::verify(cipher, iv, a, b, c, tag)
 }
 
 fn open(
@@ -98,12 +112,18 @@ fn open(
     requires { Openable key.now iv.now a.now b.now c.now tag.now (length out.old) }
     ensures { decrypt_opened (mode_of u) key.now iv.now (a.now ++ b.now) c.now tag.now out.old ≡ (outcome_number result, out.new) }
 {
-    let t = round_tables();
-    let ks = expand_key(first32(key));
+    let tables = round_tables();
+    let keys = expand_key(first32(key));
+    let cipher = Cipher {
+        keyed: Keyed {
+            tables: &tables,
+            keys: &keys,
+        },
+    };
     if u == GCM {
-        return gcm::open(&t, &ks, iv, a, b, c, tag, out);
+        return gcm::open(cipher, iv, a, b, c, tag, out);
     }
-    ccm::open(&t, &ks, iv, a, b, c, tag, out)
+    ccm::open(cipher, iv, a, b, c, tag, out)
 }
 
 // Over associated data that comes in two parts.

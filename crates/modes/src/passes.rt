@@ -4,17 +4,16 @@ ghost use Rattle.octets.specs.Blocks.{fill, cut, chain};
 ghost use Rattle.octets.specs.Lent.{when, over};
 ghost use Rattle.octets.specs.Xor.{xors};
 ghost use Rattle.aes.specs.Cipher.{cipher};
-ghost use Rattle.aes_fast.specs.Right.{Ready};
 ghost use Rattle.aes_fast.specs.Halves.{halves_block};
 ghost use Rattle.aes_fast.specs.Start.{cipher_from};
 ghost use Rattle.modes.specs.Calls.{text_max};
 ghost use Rattle.modes.specs.Counter.{ctr, with_pad, plain_block, shown_text, front_of};
 
+use crate::cipher::Cipher;
 use crate::counter::{renewed, start_at, summed};
-use aes::RoundKeys;
+use aes_fast::Keyed;
 use aes_fast::halves::{Both, Halves, add_halves, block, halves_at, halves_from, put_halves};
 use aes_fast::start::Start;
-use aes_fast::{Tables, encrypt, encrypt_beside, encrypt_from};
 use octets::strings::{Block, first16, put, xor_blocks};
 
 // The plaintext's block: of a text that is opened its sum with the pad, and of one that is sealed the text's own.
@@ -51,8 +50,7 @@ fn put_shown(text: &[u8], at: usize, pad: Halves, out: &mut [u8], opening: bool,
 
 // The block at place `at` with its pad: its plaintext is chained to y, beside the pad of the counter that ends with the byte `low`.
 fn pass_block(
-    t: &Tables,
-    ks: &RoundKeys,
+    aes: Cipher,
     s: Start,
     low: u8,
     y: Halves,
@@ -63,14 +61,14 @@ fn pass_block(
     opening: bool,
     written: bool,
 ) -> Both
-    requires { Ready t.now ks.now × (at + 16 ≤ length text.now) × (written ≡ true → at + 16 ≤ length out.old) }
-    ensures one_value { halves_block result.one ≡ cipher ks.now (xors (halves_block y) (plain_block opening text.now at (halves_block pad))) }
-    ensures other_value { halves_block result.other ≡ cipher_from t.now ks.now s low }
+    requires { (at + 16 ≤ length text.now) × (written ≡ true → at + 16 ≤ length out.old) }
+    ensures one_value { halves_block result.one ≡ cipher aes.entry.keyed.keys.now (xors (halves_block y) (plain_block opening text.now at (halves_block pad))) }
+    ensures other_value { halves_block result.other ≡ cipher_from aes.entry.keyed.tables.now aes.entry.keyed.keys.now s low }
     ensures out_after { out.new ≡ when written (with_pad (shown_text opening text.now) at (halves_block pad) out.old) out.old }
 {
     put_shown(text, at, pad, out, opening, written);
     let plain = plain_block(halves_at(text, at), pad, opening);
-    encrypt_beside(t, ks, add_halves(y, plain), s, low)
+    aes.keyed.encrypt_beside(add_halves(y, plain), s, low)
 }
 
 // The plaintext's last part, of a block or less, and zeros after it.
@@ -85,14 +83,14 @@ fn last_block(text: &[u8], pad: Block, opening: bool) -> Block
 }
 
 // The chain along that part.
-fn chain_last(t: &Tables, ks: &RoundKeys, pad: Block, y: Block, text: &[u8], opening: bool) -> Block
-    requires { Ready t.now ks.now × (length text.now ≤ 16) }
-    ensures { result ≡ chain (cipher ks.now) y (cut (when opening (xors text.now pad) text.now)) }
+fn chain_last(aes: Cipher, pad: Block, y: Block, text: &[u8], opening: bool) -> Block
+    requires { (length text.now ≤ 16) }
+    ensures { result ≡ chain (cipher aes.entry.keyed.keys.now) y (cut (when opening (xors text.now pad) text.now)) }
 {
     if text.len() == 0 {
         return y;
     }
-    encrypt(t, ks, xor_blocks(y, last_block(text, pad, opening)))
+    aes.encrypt(xor_blocks(y, last_block(text, pad, opening)))
 }
 
 // And what is written of it.
@@ -111,8 +109,7 @@ fn put_last(text: &[u8], pad: Block, out: &mut [u8], opening: bool)
 // One pass over a text, in both directions: the chain along its plaintext, each block but the last beside the next counter's pad.
 // Where it writes, the ciphertext of a text that is sealed goes over the front of the output, and of one that is opened the pads alone: its plaintext goes nowhere.
 pub(crate) fn pass(
-    t: &Tables,
-    ks: RoundKeys,
+    aes: Cipher,
     base: Block,
     y: Block,
     text: &[u8],
@@ -120,20 +117,28 @@ pub(crate) fn pass(
     opening: bool,
     written: bool,
 ) -> Block
-    requires { Ready t.now ks × (length text.now ≤ text_max) × (written ≡ true → length text.now ≤ length out.old) }
-    ensures value { result ≡ chain (cipher ks) y (cut (when opening (ctr (cipher ks) 3 (front_of false base) 1 text.now) text.now)) }
-    ensures out_after { out.new ≡ when written (over (ctr (cipher ks) 3 (front_of false base) 1 (shown_text opening text.now)) out.old) out.old }
+    requires { (length text.now ≤ text_max) × (written ≡ true → length text.now ≤ length out.old) }
+    ensures value { result ≡ chain (cipher aes.entry.keyed.keys.now) y (cut (when opening (ctr (cipher aes.entry.keyed.keys.now) 3 (front_of false base) 1 text.now) text.now)) }
+    ensures out_after { out.new ≡ when written (over (ctr (cipher aes.entry.keyed.keys.now) 3 (front_of false base) 1 (shown_text opening text.now)) out.old) out.old }
 {
     let n = text.len();
     let mut h = halves_from(y);
     let mut at = 0;
     let mut k = 1;
-    let mut s = start_at(t, &ks, base, false, 1);
-    let mut pad = encrypt_from(t, &ks, s, 1);
+    // The round keys by value, in this function's own frame: docs/DECISIONS.md.
+    let keys = *aes.keyed.keys;
+    let own = Cipher {
+        keyed: Keyed {
+            tables: aes.keyed.tables,
+            keys: &keys,
+        },
+    };
+    let mut s = start_at(own, base, false, 1);
+    let mut pad = own.keyed.encrypt_from(s, 1);
     while 16 < n - at {
-        let v = renewed(t, &ks, base, false, s, k);
+        let v = renewed(own, base, false, s, k);
         let low = ((k + 1) % 256) as u8;
-        let both = pass_block(t, &ks, v, low, h, pad, text, at, out, opening, written);
+        let both = pass_block(own, v, low, h, pad, text, at, out, opening, written);
         h = both.one;
         pad = both.other;
         s = v;
@@ -141,7 +146,7 @@ pub(crate) fn pass(
         k += 1;
     }
     let last = block(pad);
-    let z = chain_last(t, &ks, last, block(h), &text[at..n], opening);
+    let z = chain_last(own, last, block(h), &text[at..n], opening);
     if !written {
         return z;
     }

@@ -3,16 +3,14 @@ ghost use Rattle.std.specs.Prelude.{◌≡◌, false, ◌≤◌, length};
 ghost use Rattle.octets.specs.Lent.{over};
 ghost use Rattle.octets.specs.Xor.{xors};
 ghost use Rattle.aes.specs.Cipher.{cipher};
-ghost use Rattle.aes_fast.specs.Right.{Ready};
 ghost use Rattle.refusals.specs.Numbers.{outcome_number};
 ghost use Rattle.modes.specs.Counter.{counter_block, front_of};
 ghost use Rattle.modes.specs.Within.{short_max, opened_from};
 
+use crate::cipher::Cipher;
 use crate::passes::pass;
 use crate::sizes::SHORT;
 use crate::tag::check_tag;
-use aes::RoundKeys;
-use aes_fast::Tables;
 use octets::strings::{Block, xor_blocks};
 use refusals::Refusal;
 
@@ -30,8 +28,7 @@ fn put_sum(out: &mut [u8], c: &[u8], pads: &[u8])
 
 // The plaintext where the tag is right, from the chain's state y before it and from S0. The output is lent on only after the tag was found right.
 pub(crate) fn open_short(
-    t: &Tables,
-    ks: &RoundKeys,
+    aes: Cipher,
     base: Block,
     y: Block,
     s0: Block,
@@ -39,12 +36,12 @@ pub(crate) fn open_short(
     tag: &[u8],
     out: &mut [u8],
 ) -> Result<(), Refusal>
-    requires { Ready t.now ks.now × (length c.now ≤ short_max) × (length c.now ≤ length out.old) × (s0 ≡ cipher ks.now (counter_block 3 (front_of false base) 0)) }
-    ensures { opened_from (cipher ks.now) (front_of false base) y c.now tag.now out.old ≡ (outcome_number result, out.new) }
+    requires { (length c.now ≤ short_max) × (length c.now ≤ length out.old) × (s0 ≡ cipher aes.keyed.keys.now (counter_block 3 (front_of false base) 0)) }
+    ensures { opened_from (cipher aes.entry.keyed.keys.now) (front_of false base) y c.now tag.now out.old ≡ (outcome_number result, out.new) }
 {
     let n = c.len();
     let mut pads = [0u8; SHORT];
-    let z = pass(t, *ks, base, y, c, &mut pads, true, true);
+    let z = pass(aes, base, y, c, &mut pads, true, true);
     let right = xor_blocks(z, s0);
     check_tag(tag, &right)?;
     put_sum(out, c, &pads[..n]);

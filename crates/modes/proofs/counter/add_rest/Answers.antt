@@ -16,8 +16,8 @@ returns c =
     let a = c.args in
     let h = c.least-middle in
     let n = length a.text.now in
-    let F = cipher a.ks.now in
-    let size = cipher-length a.ks.now in
-    parts-over F size (width a.wide) (front_of a.wide a.base) a.i 1 h.result a.text.now a.out.now (omega (arith, c.requires.2))
+    let F = cipher a.aes.keyed.keys.now in
+    let size = cipher-length a.aes.keyed.keys.now in
+    parts-over F size (width a.wide) (front_of a.wide a.base) a.i 1 h.result a.text.now a.out.now (omega (arith, c.requires.1))
     (least_inside 16 n h.ensures) (omega arith) (least-whole 16 n h.ensures) c.add_single.ensures c.add_single-2.ensures
-    ∙ over-whole _ a.out.now (length-ctr F size (width a.wide) (front_of a.wide a.base) a.i a.text.now ∙ sym c.requires.2)
+    ∙ over-whole _ a.out.now (length-ctr F size (width a.wide) (front_of a.wide a.base) a.i a.text.now ∙ sym c.requires.1)

@@ -13,13 +13,13 @@ use Rattle.modes.proofs.counter.add_single.Goals as goal
 pub returns-then-text-eq0 : goal.returns-then-text-eq0
 returns-then-text-eq0 c =
     let a = c.args in
-    none_written (cipher a.ks.now) (width a.wide) (front_of a.wide a.base) a.k a.text.now a.out.now c.if-text-eq0.true c.requires.2
+    none_written (cipher a.aes.keyed.keys.now) (width a.wide) (front_of a.wide a.base) a.k a.text.now a.out.now c.if-text-eq0.true c.requires.1
 
 pub returns : goal.returns
 returns c =
     let a = c.args in
-    let F = cipher a.ks.now in
+    let F = cipher a.aes.keyed.keys.now in
     let pad = c.encrypt in
-    summed-put a.text.now pad.result (omega arith) c.requires.1 a.out.now c.requires.2 c.summed-sum.ensures c.put.ensures
-    ∙ ap (xors a.text.now) (pad.ensures.by-cipher c.requires.0 ∙ ap F c.counter_block.ensures)
-    ∙ sym (ctr_last F (cipher-length a.ks.now) (width a.wide) (front_of a.wide a.base) a.k a.text.now c.requires.1)
+    summed-put a.text.now pad.result (omega arith) c.requires.0 a.out.now c.requires.1 c.summed-sum.ensures c.put.ensures
+    ∙ ap (xors a.text.now) (pad.ensures ∙ ap F c.counter_block.ensures)
+    ∙ sym (ctr_last F (cipher-length a.aes.keyed.keys.now) (width a.wide) (front_of a.wide a.base) a.k a.text.now c.requires.0)

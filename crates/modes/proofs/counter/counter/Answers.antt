@@ -23,6 +23,6 @@ returns c =
     counter_answer_fits _ _ _ _ _ _ (not-false _ (sym c.runs_over.ensures ∙ c.if-runs_over.false))
     ∙ ap (λ (l : List ℕ). (0, l))
     (sym
-    (parts-over (cipher a.ks.now) (cipher-length a.ks.now) (width a.wide) (front_of a.wide a.base) a.i (a.i % 2) h.result a.text.now a.out.now
-    c.requires.1 (least_inside (16 * (a.i % 2)) n h.ensures) (odd-one a.i h.result) (least-whole (16 * (a.i % 2)) n h.ensures) c.add_single.ensures
+    (parts-over (cipher a.aes.keyed.keys.now) (cipher-length a.aes.keyed.keys.now) (width a.wide) (front_of a.wide a.base) a.i (a.i % 2) h.result a.text.now a.out.now
+    c.requires.0 (least_inside (16 * (a.i % 2)) n h.ensures) (odd-one a.i h.result) (least-whole (16 * (a.i % 2)) n h.ensures) c.add_single.ensures
     c.add_pairs.ensures))

@@ -7,4 +7,4 @@ use Rattle.modes.proofs.counter.renewed.Goals as goal
 
 pub returns : goal.returns
 returns c =
-    serves-also c.requires.2 (c.args.k + 1) (omega arith)
+    serves-also c.requires.1 (c.args.k + 1) (omega arith)

@@ -8,6 +8,6 @@ use Rattle.modes.proofs.counter.start_at.Goals as goal
 pub returns : goal.returns
 returns c =
     let a = c.args in
-    start_serves c.requires a.wide a.base c.counter_block.result c.start_of.result a.k (omega arith)
+    start_serves a.aes.ready a.wide a.base c.counter_block.result c.start_of.result a.k (omega arith)
     (array_bytes 16 c.counter_block.result _ c.counter_block.type_inv) (omega arith)
     c.counter_block.ensures c.start_of.ensures

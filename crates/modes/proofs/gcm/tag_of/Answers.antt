@@ -13,6 +13,6 @@ returns c =
     let a = c.args in
     let ciphered = c.encrypt_two-both.ensures in
     let other : c.block-2.result ≡ halves_block c.encrypt_two-both.result.other = c.block-2.ensures in
-    tag_steps (cipher a.ks.now) (front_of true a.base) a.a.now a.b.now a.c.now (c.block.ensures ∙ ciphered.0.by-cipher c.requires.0)
+    tag_steps (cipher a.aes.keyed.keys.now) (front_of true a.base) a.a.now a.b.now a.c.now (c.block.ensures ∙ ciphered.0)
     c.lengths_block-last.ensures c.ghash_parts-s.ensures c.counter_block.ensures
-    (other ∙ ciphered.1.by-cipher c.requires.0) c.xor_blocks.ensures
+    (other ∙ ciphered.1) c.xor_blocks.ensures

@@ -9,5 +9,5 @@ use Rattle.modes.proofs.gcm.verify.Goals as goal
 pub returns : goal.returns
 returns c =
     let a = c.args in
-    opened-number (cipher a.ks.now) (cipher-length a.ks.now) a.iv.now (a.a.now ++ a.b.now) c.requires.1 c.base_of.ensures
+    opened-number (cipher a.aes.keyed.keys.now) (cipher-length a.aes.keyed.keys.now) a.iv.now (a.a.now ++ a.b.now) c.requires.0 c.base_of.ensures
     a.c.now a.tag.now c.tag_of-right.ensures c.check_tag.ensures

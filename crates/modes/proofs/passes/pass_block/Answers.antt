@@ -15,10 +15,10 @@ returns-clause-one_value c =
     let a = c.args in
     let sum = c.add_halves in
     c.encrypt_beside.ensures.0
-    ∙ ready-cipher a.t.now a.ks.now (halves_block sum.result) c.requires.0 (halves_bytes sum.result) (halves-length sum.result)
-    ∙ ap (cipher a.ks.now)
+    ∙ ready-cipher a.aes.keyed.tables.now a.aes.keyed.keys.now (halves_block sum.result) a.aes.ready (halves_bytes sum.result) (halves-length sum.result)
+    ∙ ap (cipher a.aes.keyed.keys.now)
     (sum.ensures
     ∙ ap (xors (halves_block a.y))
     (c.plain_block-plain.ensures
     ∙ ap (λ (b : List ℕ). when a.opening (xors b (halves_block a.pad)) b)
-    (c.halves_at.ensures ∙ block_at-whole a.text.now a.at c.requires.1)))
+    (c.halves_at.ensures ∙ block_at-whole a.text.now a.at c.requires.0)))
