@@ -16,7 +16,6 @@ use crate::passes::pass;
 use crate::short::open_short;
 use crate::sizes::SHORT;
 use crate::tag::check_tag;
-use aes_fast::halves::block;
 use cbc_mac::{absorb, close};
 use octets::big_endian::bytes16;
 use octets::strings::{Block, put, xor_blocks};
@@ -82,8 +81,8 @@ fn chain_start(aes: Cipher, base: Block, a: &[u8], b: &[u8], n: usize) -> Begun
     let with_data = a.len() + b.len() != 0;
     let first = first_block(base, with_data, n);
     let both = aes.encrypt_two(first, counter_block(base, false, 0));
-    let chain = chain_data(aes, block(both.one), a, b);
-    let pad = block(both.other);
+    let chain = chain_data(aes, Block::from(both.one), a, b);
+    let pad = Block::from(both.other);
     Begun { chain, pad }
 }
 

@@ -12,7 +12,6 @@ ghost use Rattle.modes.specs.Gcm.{gcm_tag, gcm_tag_right, gcm_sealed, gcm_opened
 use crate::cipher::Cipher;
 use crate::counter::{counter, counter_block};
 use crate::tag::check_tag;
-use aes_fast::halves::block;
 use ghash::hash::ghash_parts;
 use octets::strings::{Block, first16, put, xor_blocks};
 use refusals::Refusal;
@@ -44,8 +43,8 @@ fn tag_of(aes: Cipher, base: Block, a: &[u8], b: &[u8], c: &[u8]) -> Block
 {
     let both = aes.encrypt_two([0u8; 16], counter_block(base, true, 1));
     let last = lengths_block(a.len() + b.len(), c.len());
-    let s = ghash_parts(block(both.one), a, b, c, last);
-    xor_blocks(s, block(both.other))
+    let s = ghash_parts(Block::from(both.one), a, b, c, last);
+    xor_blocks(s, Block::from(both.other))
 }
 
 pub(crate) fn seal(

@@ -12,7 +12,7 @@ ghost use Rattle.modes.specs.Counter.{ctr, with_pad, plain_block, shown_text, fr
 use crate::cipher::Cipher;
 use crate::counter::{renewed, start_at, summed};
 use aes_fast::Keyed;
-use aes_fast::halves::{Both, Halves, add_halves, block, halves_at, halves_from, put_halves};
+use aes_fast::halves::{Both, Halves, add_halves, halves_at, put_halves};
 use aes_fast::start::Start;
 use octets::strings::{Block, first16, put, xor_blocks};
 
@@ -122,7 +122,7 @@ pub(crate) fn pass(
     ensures out_after { out.new ≡ when written (over (ctr (cipher aes.entry.keyed.keys.now) 3 (front_of false base) 1 (shown_text opening text.now)) out.old) out.old }
 {
     let n = text.len();
-    let mut h = halves_from(y);
+    let mut h = Halves::from(y);
     let mut at = 0;
     let mut k = 1;
     // The round keys by value, in this function's own frame: docs/DECISIONS.md.
@@ -145,8 +145,8 @@ pub(crate) fn pass(
         at += 16;
         k += 1;
     }
-    let last = block(pad);
-    let z = chain_last(own, last, block(h), &text[at..n], opening);
+    let last = Block::from(pad);
+    let z = chain_last(own, last, Block::from(h), &text[at..n], opening);
     if !written {
         return z;
     }

@@ -18,6 +18,6 @@ returns-clause-chain_value c =
     let F = cipher a.aes.keyed.keys.now in
     c.chain_data-chain.ensures
     ∙ ap (λ (y : List ℕ). chain F y (data_blocks (a.a.now ++ a.b.now)))
-    (c.block.ensures
+    (c.from.ensures
     ∙ c.encrypt_two-both.ensures.0
     ∙ ap F (c.first_block-first.ensures ∙ first_block-parts (drop 1 (front_of false a.base)) a.a.now a.b.now a.n))

@@ -12,7 +12,7 @@ pub returns : goal.returns
 returns c =
     let a = c.args in
     let ciphered = c.encrypt_two-both.ensures in
-    let other : c.block-2.result ≡ halves_block c.encrypt_two-both.result.other = c.block-2.ensures in
-    tag_steps (cipher a.aes.keyed.keys.now) (front_of true a.base) a.a.now a.b.now a.c.now (c.block.ensures ∙ ciphered.0)
+    let other : c.from-2.result ≡ halves_block c.encrypt_two-both.result.other = c.from-2.ensures in
+    tag_steps (cipher a.aes.keyed.keys.now) (front_of true a.base) a.a.now a.b.now a.c.now (c.from.ensures ∙ ciphered.0)
     c.lengths_block-last.ensures c.ghash_parts-s.ensures c.counter_block.ensures
     (other ∙ ciphered.1) c.xor_blocks.ensures

@@ -13,8 +13,8 @@ use Rattle.modes.proofs.passes.pass.Goals.{After-chain_last-z}
 use Rattle.modes.proofs.passes.pass.Goals as goal
 
 -- the pad of its counter
-pad-is : (c : After-chain_last-z) → (let a = c.args in c.block-last.result ≡ cipher a.aes.keyed.keys.now (counter_block 3 (front_of false a.base) c.loop-at.k))
-pad-is c = c.block-last.ensures ∙ c.loop-at.invariant.1
+pad-is : (c : After-chain_last-z) → (let a = c.args in c.from-last.result ≡ cipher a.aes.keyed.keys.now (counter_block 3 (front_of false a.base) c.loop-at.k))
+pad-is c = c.from-last.ensures ∙ c.loop-at.invariant.1
 
 chained : (c : After-chain_last-z)
     → (let a = c.args in
@@ -22,7 +22,7 @@ chained : (c : After-chain_last-z)
 chained c =
     let a = c.args in
     passed_chained (cipher a.aes.keyed.keys.now) (cipher-length a.aes.keyed.keys.now) 3 (front_of false a.base) a.opening a.written c.loop-at.invariant.2
-    (omega (arith, c.loop-at-test.false)) c.halves_from-h.ensures (pad-is c) c.block.ensures c.chain_last-z.ensures
+    (omega (arith, c.loop-at-test.false)) c.from-h.ensures (pad-is c) c.from.ensures c.chain_last-z.ensures
 
 pub loop-at-init : goal.loop-at-init
 loop-at-init c =
