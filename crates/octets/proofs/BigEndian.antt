@@ -5,7 +5,7 @@ use mathlib.Core.List.{List, [], ◌∷◌, ◌++◌}
 use Prim.Native.Nat.{ℕ, zero, suc, ◌+◌, ◌*◌, ◌/◌, ◌%◌, ◌^◌, ◌≤◌, ◌<◌}
 use native.Mathlib.Nat.{pow-suc, add-zero, zero-add, zero-mul, add-mul, mul_assoc, mul_comm, add_assoc, mul-le-mul_right, le_of_suc-le-suc}
 use native.Mathlib.Nat.{mod-lt, mod-eq_of_lt, div-one, div-eq_of_lt, div-div-eq-div-mul, div-add-mod', mul-add-div_right, mul-add-mod_self_right}
-use native.Mathlib.Numerals.{add-one, add-two, add-three, add-four}
+use native.Mathlib.Numerals.{add-one}
 use native.Mathlib.Omega.{arith}
 use lib.Bits.{bit_xor, xor_shr, xor_mod}
 use lib.Dec.{lit<}
@@ -136,14 +136,7 @@ be-number_at w s i h fits =
     ∙ ap (λ (k : ℕ). be k (number (take w (drop i s)))) (sym (length-take-le w (drop i s) (omega (arith, length-drop i s))))
     ∙ be-number (bytes_take w (bytes_drop i h))
 
--- ---- two, four and eight bytes from a place, as they are read
+-- ---- two bytes from a place
 
 pub number_at_two : (s : List ℕ) (i : ℕ) → number_at 2 s i ≡ get_or s (i + 0) 0 * 256 + get_or s (i + 1) 0
 number_at_two s i = rw (add-zero i, add-one) (omega arith)
-
-pub number_at_four : (s : List ℕ) (i k : ℕ)
-    → number_at 4 s (i + k) ≡ get_or s (i + k) 0 * 16777216 + get_or s (i + (k + 1)) 0 * 65536 + get_or s (i + (k + 2)) 0 * 256 + get_or s (i + (k + 3)) 0
-number_at_four s i k = rw (← add_assoc i k 1, ← add_assoc i k 2, ← add_assoc i k 3, add-one, add-two, add-three) (omega arith)
-
-pub number_at_eight : (s : List ℕ) (i : ℕ) → number_at 8 s i ≡ number_at 4 s (i + 0) * 4294967296 + number_at 4 s (i + 4)
-number_at_eight s i = rw (add-zero i, add-four) (omega arith)

@@ -4,15 +4,18 @@ use mathlib.Core.Path.{◌≡◌, refl, sym, ap, ap₂, ◌∙◌}
 use mathlib.Core.Bool.{Bool, true, false, ◌||◌}
 use mathlib.Core.List.{List, [], ◌∷◌, ◌++◌, append-nil}
 use Prim.Native.Nat.{ℕ, zero, suc, ◌+◌, ◌-◌, ◌≤◌, ◌<◌, min}
-use native.Mathlib.Nat.{zero-min, min-zero, suc-min-suc}
+use native.Mathlib.Nat.{add-zero, zero-min, min-zero, suc-min-suc}
 use native.Mathlib.Numerals.{add-one}
 use native.Mathlib.Omega.{arith}
 use lib.Dec.{eqb, ltb}
 use lib.ListN.{length, get_or, set, take, drop, replicate, length-replicate, length-append, length-take, length-drop, drop_of_length-le}
-use lib.Seq.{take_all, take-nil, take-suc, drop-cons, set_at, append_snoc, length-take-le, take_at, drop_at}
+use lib.Seq.{get_or-drop, take_all, take-nil, take-suc, drop-cons, set_at, append_snoc, length-take-le, take_at, drop_at}
 use borrow.Author.Tests.{eqb-true, eq-eqb, ltb-true, not-false}
+use Rattle.octets.specs.Tests.{part_of}
+use Rattle.octets.specs.Values.{values, bytes_at}
 use Rattle.octets.specs.Lent.{Tests, when, is_not, lowest, over, answer}
 use Rattle.octets.specs.Lowest.{rises_above, rises}
+use Rattle.octets.proofs.Values.{cons_equal, values-later, values-from, values_same}
 use Rattle.octets.proofs.Tests.{and_left, and_right, or_left, or_right, rest_all}
 
 -- ---- lengths
@@ -78,6 +81,25 @@ over_shorter (x ∷ s) (y ∷ d) = rw (suc-min-suc (length s) (length d)) (ap (�
 
 pub over_end : (s d : List ℕ) (i : ℕ) → i ≡ min (length s) (length d) → take i s ++ drop i d ≡ over s d
 over_end s d i e = rw e (over_shorter s d)
+
+-- ---- the first n bytes of a string, with zeros where it is shorter
+
+none-values : (i n : ℕ) → replicate {A = ℕ} n 0 ≡ values (λ k. get_or [] k 0) i n
+none-values i zero = refl
+none-values i (suc n) = cons_equal refl (none-values (suc i) n)
+
+front_values : (n : ℕ) (s : List ℕ) → over (take n s) (replicate n 0) ≡ values (λ k. get_or s k 0) 0 n
+front_values zero s = refl
+front_values (suc n) [] = over_empty (replicate (suc n) 0) ∙ none-values 0 (suc n)
+front_values (suc n) (x ∷ s) = cons_equal refl (front_values n s ∙ sym (values-later (λ k. get_or (x ∷ s) k 0) 0 n))
+
+-- as they are read from place i on
+pub over_part : (n : ℕ) (s : List ℕ) (i : ℕ) → over (part_of s i n) (replicate n 0) ≡ bytes_at n s i
+over_part n s i =
+    front_values n (drop i s)
+    ∙ values_same _ _ 0 n (λ k lo hi. get_or-drop i s k 0)
+    ∙ sym (values-from (λ k. get_or s k 0) i 0 n)
+    ∙ ap (λ (k : ℕ). bytes_at n s k) (add-zero i)
 
 -- ---- answers
 

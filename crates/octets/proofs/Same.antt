@@ -3,14 +3,12 @@
 use mathlib.Core.Path.{◌≡◌, refl, sym, ap}
 use mathlib.Core.Bool.{Bool, true, false, ◌&&◌, false≢true, and_assoc, and-true}
 use mathlib.Core.List.{List, [], ◌∷◌}
-use Prim.Native.Nat.{ℕ, ◌+◌, ◌≤◌, ◌<◌}
-use native.Mathlib.Numerals.{add-one}
+use Prim.Native.Nat.{ℕ}
 use native.Mathlib.Omega.{arith}
 use borrow.Author.Tests.{eqb-true, eqb-false, eq-eqb, ne_eqb}
 use lib.Bits.{bit_or, bit_xor, or_add_and, xor_add_and, and_le_l, and_le_r, xor_self}
 use lib.Dec.{eqb}
-use lib.ListN.{length, get_or, drop, drop_of_length-le}
-use lib.Seq.{drop-cons}
+use lib.ListN.{length}
 use Rattle.octets.specs.Same.{same}
 use Rattle.octets.proofs.Values.{cons_equal}
 use Rattle.octets.proofs.Tests.{and_left, and_right}
@@ -54,15 +52,13 @@ gather d x y = go (eqb d 0) (eqb x y) refl refl
     go true false p q = ne_eqb _ _ (λ e. eqb-false x y q (xor-none x y (or-none d (bit_xor x y) e).1))
     go false t p q = ne_eqb _ _ (λ e. eqb-false d 0 p (or-none d (bit_xor x y) e).0)
 
--- ---- along two strings by an index: what was gathered and what is left decide together
+-- ---- along two strings: what was gathered and what is left decide together
 
-module _ (s t : List ℕ) (i d : ℕ) where
-  pub same_turn : i < length s → i < length t
-      → (eqb d 0 && same (drop i s) (drop i t)) ≡ (eqb (bit_or d (bit_xor (get_or s i 0) (get_or t i 0))) 0 && same (drop (i + 1) s) (drop (i + 1) t))
-  unfolding same
-  same_turn h k =
-      rw (drop-cons s i 0 h, drop-cons t i 0 k, add-one, gather d (get_or s i 0) (get_or t i 0)) (sym (and_assoc (eqb d 0) _ _))
+pub same_more : {s t : List ℕ} {x y : ℕ} {u v : List ℕ} (d : ℕ) → s ≡ x ∷ u → t ≡ y ∷ v
+    → (eqb d 0 && same s t) ≡ (eqb (bit_or d (bit_xor x y)) 0 && same u v)
+unfolding same
+same_more {x} {y} d e f = rw (e, f, gather d x y) (sym (and_assoc (eqb d 0) _ _))
 
-  pub same_end : length s ≤ i → length t ≤ i → (eqb d 0 && same (drop i s) (drop i t)) ≡ eqb d 0
-  unfolding same
-  same_end h k = rw (drop_of_length-le s h, drop_of_length-le t k) (and-true (eqb d 0))
+pub same_none : (s t : List ℕ) (d : ℕ) → s ≡ [] → t ≡ [] → (eqb d 0 && same s t) ≡ eqb d 0
+unfolding same
+same_none s t d e f = rw (e, f) (and-true (eqb d 0))

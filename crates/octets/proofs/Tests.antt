@@ -9,6 +9,8 @@ use native.Mathlib.Numerals.{add-one}
 use native.Mathlib.Omega.{arith}
 use lib.ListN.{length, get_or, take, drop, drop_of_length-le, take-append-drop, length-append, length-take, length-drop}
 use lib.Seq.{drop-cons, take_all, take_at, take-nil, take-take, drop_at, drop-drop}
+use Rattle.std.specs.Bool.{MatchBool}
+use Rattle.std.specs.List.{AllWithin, HoldsAt}
 use Rattle.octets.specs.Tests.{also, every, all, part_of}
 
 pub and_left : (a b : Bool) → (a && b) ≡ true → a ≡ true
@@ -48,6 +50,25 @@ unfolding all
 all_at p [] i d e h = absurd (not-suc-le-zero h)
 all_at p (x ∷ s) zero d e h = and_left (p x) (all p s) e
 all_at p (x ∷ s) (suc i) d e h = all_at p s i d (and_right (p x) (all p s) e) (le_of_suc-le-suc h)
+
+all_of : {A : Type 0} (p : A → Bool) (s : List A) → AllWithin (λ x. p x ≡ true) s 0 (length s) → all p s ≡ true
+unfolding all
+all_of p [] h = refl
+all_of p (x ∷ s) h = rw (h 0 x (omega arith) (omega arith)) (all_of p s (λ k d lo hi. h (suc k) d (omega arith) (omega arith)))
+
+all-not : {A : Type 0} (p : A → Bool) (s : List A) → (k : ℕ) × (k < length s) × HoldsAt (λ x. p x ≡ false) s k → all p s ≡ false
+all-not p [] h = absurd (not-suc-le-zero h.1)
+all-not p (x ∷ s) h = go (all p (x ∷ s)) refl
+  where
+    go : (t : Bool) → all p (x ∷ s) ≡ t → all p (x ∷ s) ≡ false
+    go true e = absurd (false≢true (sym (h.2 x) ∙ all_at p (x ∷ s) h.0 x e h.1))
+    go false e = e
+
+-- what `all` of an iterator answers, by a closure that tests p
+pub all-answer : {A : Type 0} (p : A → Bool) (s : List A) (r : Bool)
+    → MatchBool r (AllWithin (λ x. p x ≡ true) s 0 (length s)) ((k : ℕ) × (k < length s) × HoldsAt (λ x. p x ≡ false) s k) → r ≡ all p s
+all-answer p s true h = sym (all_of p s h)
+all-answer p s false h = sym (all-not p s h)
 
 -- ---- every
 

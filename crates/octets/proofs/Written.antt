@@ -7,7 +7,7 @@ use native.Mathlib.Nat.{sub-zero, zero-sub, suc-sub-suc, le_of_suc-le-suc, not-s
 use native.Mathlib.Numerals.{add-one}
 use native.Mathlib.Omega.{arith}
 use lib.Bits.{bit_xor}
-use lib.ListN.{length, get_or, set, take, drop, replicate, length-append, length-take, length-drop, drop_of_length-le}
+use lib.ListN.{length, get_or, set, take, drop, replicate, length-replicate, length-append, length-take, length-drop, drop_of_length-le}
 use lib.Seq.{take_all, take_at, take-suc, take-suc-set, drop_at, drop-drop}
 use Rattle.octets.specs.Xor.{xors}
 use Rattle.octets.specs.Blocks.{fill}
@@ -89,6 +89,19 @@ get_d-xors [] b j h k = absurd (not-suc-le-zero h)
 get_d-xors (x ∷ a) [] j h k = absurd (not-suc-le-zero k)
 get_d-xors (x ∷ a) (y ∷ b) zero h k = refl
 get_d-xors (x ∷ a) (y ∷ b) (suc j) h k = get_d-xors a b j (le_of_suc-le-suc h) (le_of_suc-le-suc k)
+
+module _ (a b : List ℕ) (n : ℕ) (first : length a ≡ n) (second : length b ≡ n) where
+  pub sum_turn : {x : List ℕ} (j : ℕ) → j < n → x ≡ take j (xors a b) ++ drop j (replicate n 0)
+      → set x j (bit_xor (get_or a j 0) (get_or b j 0)) ≡ take (j + 1) (xors a b) ++ drop (j + 1) (replicate n 0)
+  sum_turn j h e =
+      ap₂ (λ (l : List ℕ) (v : ℕ). set l j v) e (sym (get_d-xors a b j (omega arith) (omega arith)))
+      ∙ over_turn (xors a b) (replicate n 0) j (omega (arith, length-xors a b (omega arith))) (omega (arith, length-replicate {A = ℕ} n 0))
+
+  pub sum_end : {x : List ℕ} (j : ℕ) → n ≤ j → x ≡ take j (xors a b) ++ drop j (replicate n 0) → x ≡ xors a b
+  sum_end j h e =
+      e
+      ∙ ap₂ (λ (l m : List ℕ). l ++ m) (take_all j (xors a b) (omega (arith, length-xors a b (omega arith)))) (drop_of_length-le (replicate n 0) {i = j} (omega (arith, length-replicate {A = ℕ} n 0)))
+      ∙ append-nil (xors a b)
 
 module _ (s pad : List ℕ) (size : length pad ≡ 16) (short : length s ≤ 16) where
   pub summed_turn : {x : List ℕ} (j : ℕ) → j < length s → x ≡ take j (xors s pad) ++ drop j (replicate 16 0)

@@ -1,4 +1,4 @@
--- Where a lent string lies. The kit's reference (`RefT`) is a pointer, which is a block of memory and an offset in it, the value there now, and a ghost
+-- Where a lent string lies. The kit's reference (`Bor`) is a pointer, which is a block of memory and an offset in it, the value there now, and a ghost
 -- name that proofs follow the value by. Of the part of a string that a call hands back the first two are stated: equal bytes elsewhere do not meet it.
 -- Assumes nothing.
 use Rattle.std.specs.Prelude.{ℕ, ◌+◌, min, List, length}

@@ -9,60 +9,49 @@ ghost use Rattle.octets.specs.Places.{placed, part_in};
 pub type Block = [u8; 16];
 
 // Whether two strings have the same length and the same bytes. Every byte is looked at, whatever the earlier ones are.
+#[tactic(auto, using(crate::proofs::Same::same_lengths, crate::proofs::Same::same_more))]
 pub fn equal(a: &[u8], b: &[u8]) -> bool
     ensures { result ≡ same a.now b.now }
 {
     if a.len() != b.len() {
         return false;
     }
-    let mut different: u8 = 0;
-    let mut i = 0;
-    while i < a.len() {
-        different = different | (a[i] ^ b[i]);
-        i += 1;
+    let mut different = 0u8;
+    for (x, y) in a.iter().zip(b) {
+        different |= x ^ y;
     }
     different == 0
 }
 
-// The exclusive or of two blocks.
+// The exclusive or of two strings of one length.
+#[tactic(auto, using(crate::proofs::Written::sum_turn))]
+pub fn xor<const N: usize>(a: [u8; N], b: [u8; N]) -> [u8; N]
+    ensures { result ≡ xors a.entry b.entry }
+{
+    let mut sum = [0; N];
+    for (i, x) in sum.iter_mut().enumerate() {
+        *x = a[i] ^ b[i];
+    }
+    sum
+}
+
+// Of two blocks.
 pub fn xor_blocks(a: Block, b: Block) -> Block
     ensures { result ≡ xors a b }
 {
-    [
-        a[0] ^ b[0],
-        a[1] ^ b[1],
-        a[2] ^ b[2],
-        a[3] ^ b[3],
-        a[4] ^ b[4],
-        a[5] ^ b[5],
-        a[6] ^ b[6],
-        a[7] ^ b[7],
-        a[8] ^ b[8],
-        a[9] ^ b[9],
-        a[10] ^ b[10],
-        a[11] ^ b[11],
-        a[12] ^ b[12],
-        a[13] ^ b[13],
-        a[14] ^ b[14],
-        a[15] ^ b[15],
-    ]
+    xor(a, b)
 }
 
 // Writes s over the front of out, as far as out reaches.
 pub fn put(out: &mut [u8], s: &[u8])
     ensures { out.new ≡ over s.now out.old }
 {
-    let mut i = 0;
-    while i < s.len() {
-        if i == out.len() {
-            return;
-        }
-        out[i] = s[i];
-        i += 1;
-    }
+    let n = s.len().min(out.len());
+    out[..n].copy_from_slice(&s[..n]);
 }
 
 // Writes one string and then another over the front of out, as far as out reaches.
+#[tactic(auto, using(crate::proofs::Lent::over_then, crate::proofs::Lent::length_over))]
 pub fn put_both(first: &[u8], second: &[u8], out: &mut [u8])
     ensures { out.new ≡ over (first.now ++ second.now) out.old }
 {
@@ -75,6 +64,7 @@ pub fn put_both(first: &[u8], second: &[u8], out: &mut [u8])
 }
 
 // The same of three.
+#[tactic(auto, using(crate::proofs::Lent::over_then, crate::proofs::Lent::length_over))]
 pub fn put_three(first: &[u8], second: &[u8], third: &[u8], out: &mut [u8])
     ensures { out.new ≡ over (first.now ++ (second.now ++ third.now)) out.old }
 {
@@ -86,22 +76,29 @@ pub fn put_three(first: &[u8], second: &[u8], third: &[u8], out: &mut [u8])
     put_both(second, third, &mut out[middle..]);
 }
 
-// The first 16 bytes of a string, and zeros where it is shorter.
-pub fn first16(s: &[u8]) -> Block
-    ensures { result ≡ over s.now (replicate 16 0) }
+// The first N bytes of a string, and zeros where it is shorter.
+pub fn first<const N: usize>(s: &[u8]) -> [u8; N]
+    ensures { result ≡ over s.now (replicate N 0) }
 {
-    let mut b = [0u8; 16];
+    // A string that is long enough is read in one piece, with no loop.
+    if let Some(whole) = s.first_chunk() {
+        return *whole;
+    }
+    let mut b = [0; N];
     put(&mut b, s);
     b
 }
 
-// The first 32 bytes, likewise.
+pub fn first16(s: &[u8]) -> Block
+    ensures { result ≡ over s.now (replicate 16 0) }
+{
+    first(s)
+}
+
 pub fn first32(s: &[u8]) -> [u8; 32]
     ensures { result ≡ over s.now (replicate 32 0) }
 {
-    let mut b = [0u8; 32];
-    put(&mut b, s);
-    b
+    first(s)
 }
 
 // Eight bytes and then eight.
@@ -118,14 +115,8 @@ pub fn two_eights(a: [u8; 8], b: [u8; 8]) -> Block
 pub fn part_in(s: &[u8], i: usize, n: usize) -> &[u8]
     ensures { placed result ≡ part_in (placed s.entry) i n }
 {
-    if i > s.len() {
-        return &s[s.len()..];
-    }
-    if n > s.len() - i {
-        return &s[i..];
-    }
-    let e = i + n;
-    &s[i..e]
+    let rest = &s[i.min(s.len())..];
+    &rest[..n.min(rest.len())]
 }
 
 // The same, for callers that ask for no more than its bytes.
@@ -139,12 +130,5 @@ pub fn part(s: &[u8], i: usize, n: usize) -> &[u8]
 pub fn all_zero(s: &[u8]) -> bool
     ensures { result ≡ zeros s.now }
 {
-    let mut i = 0;
-    while i < s.len() {
-        if s[i] != 0 {
-            return false;
-        }
-        i += 1;
-    }
-    true
+    s.iter().all(|b| *b == 0)
 }

@@ -1,23 +1,14 @@
--- `octets::strings::all_zero` meets its contract: what is left at i decides.
+-- `octets::strings::all_zero` meets its contract: the closure tests each byte as the definition does.
 -- Assumes nothing.
-use mathlib.Core.Path.{refl, sym, ◌∙◌}
-use native.Mathlib.Omega.{arith}
-use borrow.Author.Tests.{eq-eqb, ne_eqb}
-use Rattle.octets.proofs.Tests.{all-stop, all_turn, all_end}
+use Rattle.std.proofs.Common.{◌≡◌, ℕ, rules, true, false}
+use Rattle.std.proofs.lemmas.Iterator.{cases_from_all, YieldsList-from_slice}
+use borrow.Author.Tests.{tests}
+use lib.Dec.{eqb}
+use Rattle.octets.proofs.Tests.{all-answer}
 use Rattle.octets.proofs.strings.all_zero.Goals as goal
 
-pub loop-i-init : goal.loop-i-init
-loop-i-init c = (omega arith, refl)
-
-pub returns-then-s-i-ne0 : goal.returns-then-s-i-ne0
-returns-then-s-i-ne0 c =
-    let l = c.loop-i in
-    sym (l.invariant.1 ∙ all-stop _ _ _ 0 c.loop-i-test.true (ne_eqb _ _ c.if-s-i-ne0.true))
-
-pub loop-i-preserved : goal.loop-i-preserved
-loop-i-preserved c =
-    let l = c.loop-i in
-    (omega arith, l.invariant.1 ∙ all_turn _ _ _ 0 c.loop-i-test.true (eq-eqb _ _ c.if-s-i-ne0.false))
-
 pub returns : goal.returns
-returns c = sym (c.loop-i.invariant.1 ∙ all_end _ _ _ c.loop-i-test.false)
+returns c =
+    all-answer _ c.args.s.now c.all.result
+    (cases_from_all _ _ _ (λ (b : ℕ). eqb b 0 ≡ true) (λ (b : ℕ). eqb b 0 ≡ false) c.all.ensures.ran (YieldsList-from_slice c.args.s.now cc)
+    (λ x q k. search (rules, tests)) (λ x q k. search (rules, tests)))

@@ -1,13 +1,12 @@
-use mathlib.Core.Path.{◌≡◌}
-use mathlib.Core.Bool.{◌&&◌}
-use Prim.Native.Nat.{◌-◌, ◌≤◌}
+use Rattle.std.proofs.Common.{◌≡◌, ◌&&◌, length}
+use Rattle.std.specs.Iterator.Adapters.{zip_first, zip_second}
+use Rattle.std.specs.Slice.Iter.{iter_rest}
 use lib.Dec.{eqb}
-use lib.ListN.{length, drop}
 use Rattle.octets.specs.Same.{same}
 use Rattle.octets.proofs.strings.equal.Given as goal
 
-abbrev pub invariant-loop-i : goal.invariant-loop-i
-invariant-loop-i l = (l.i ≤ length l.a) × (length l.a ≡ length l.b) × (same l.a l.b ≡ (eqb l.different 0 && same (drop l.i l.a) (drop l.i l.b)))
-
-abbrev pub decreases-loop-i : goal.decreases-loop-i
-decreases-loop-i l = length l.a - l.i
+abbrev pub invariant-loop-x : goal.invariant-loop-x
+invariant-loop-x l =
+    let s = iter_rest (zip_first l.x-iterator) in
+    let t = iter_rest (zip_second l.x-iterator) in
+    (length s ≡ length t) × (same l.a l.b ≡ (eqb l.different 0 && same s t))

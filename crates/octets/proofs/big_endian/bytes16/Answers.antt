@@ -1,7 +1,0 @@
--- `octets::big_endian::bytes16` meets its contract: the last byte is divided by 1.
--- Assumes nothing.
-use native.Mathlib.Nat.{div-one}
-use Rattle.octets.proofs.big_endian.bytes16.Goals as goal
-
-pub returns : goal.returns
-returns c = rw (div-one c.args.n)

@@ -1,8 +1,0 @@
--- `octets::strings::xor_blocks` meets its contract, byte by byte.
--- Assumes nothing.
-use mathlib.Core.Path.{sym}
-use Rattle.octets.proofs.Xor.{xors-values}
-use Rattle.octets.proofs.strings.xor_blocks.Goals as goal
-
-pub returns : goal.returns
-returns c = sym (xors-values c.args.a c.args.b 16 c.well_formed.0.1.0.1 c.well_formed.1.0.1.0.1)
