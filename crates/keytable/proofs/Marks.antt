@@ -7,7 +7,7 @@ use Prim.Native.Nat.{ℕ, ◌+◌, ◌-◌, ◌*◌, ◌/◌, ◌%◌, ◌^◌, 
 use native.Mathlib.Nat.{mod-lt}
 use native.Mathlib.Omega.{arith}
 use borrow.Author.Tests.{eqb-true, eqb-false, eq-eqb}
-use lib.Bits.{bit_or, or_add_and, and_le_r, or_comm, or_lt, or_shr, or_mod}
+use lib.Bits.{bit_or, bit_xor, or_add_and, and_le_r, or_comm, or_lt, or_shr, or_mod}
 use lib.Dec.{eqb}
 use lib.ListN.{length, get_or, set, drop, take, replicate, length-drop}
 use lib.Pow.{shl_exact, shl-shr}
@@ -18,15 +18,23 @@ use Rattle.octets.proofs.Tests.{and_left, and_right, every_at, length_part}
 use Rattle.octets.proofs.Values.{cons_equal}
 use Rattle.keytable.specs.Row.{name_max, row_name_at, row_size, name_length, name_of, row_in, row_ok, row_tests, Row, matches}
 use Rattle.keytable.specs.Table.{row_place, row_count, row_parts, rows_of, no_row, row_number}
-use Rattle.keytable.specs.Marks.{mark_from, name_mark, row_mark, has_mark, last_of_its_pair}
+use Rattle.keytable.specs.Marks.{mark_count, turned_right, mark_from, name_mark, row_mark, has_mark, last_of_its_pair}
 use Rattle.keytable.proofs.Accepted.{length-rows_of, rows_of_at, row_kept, part_ok}
 use Rattle.keytable.proofs.Lookup.{unmatched, absent-each}
 
 -- ---- one name, one mark
 
--- the mark, by four words that were read
-pub mark-words : (s : List ℕ) (a b c d : ℕ) → a ≡ number_at 8 s 0 → b ≡ number_at 8 s 8 → c ≡ number_at 8 s 16 → d ≡ number_at 8 s 24 → mark_from a b c d ≡ name_mark s
-mark-words s a b c d is-a is_b is_c is-d = rw (is-a, is_b, is_c, is-d)
+-- the mark, by four words that were read, and turned
+abbrev pub mark_by : ℕ → ℕ → ℕ → ℕ → ℕ
+mark_by a b c d =
+    let mix = bit_xor (bit_xor (bit_xor a b) c) d in
+    (mix / 0x100000000 % 0x100000000 * 0x297A2D39 + mix % 0x100000000 * 0x1E3779B1) / 0x4000000 % mark_count
+
+pub mark-words : (s : List ℕ) (a b c d : ℕ)
+    → a ≡ number_at 8 s 0 → b ≡ turned_right 4 (number_at 8 s 8) → c ≡ turned_right 20 (number_at 8 s 16) → d ≡ turned_right 36 (number_at 8 s 24)
+    → mark_by a b c d ≡ name_mark s
+unfolding mark_from
+mark-words s a b c d is-a is_b is_c is-d = cc
 
 zeros_are : (s : List ℕ) → zeros s ≡ true → s ≡ replicate (length s) 0
 unfolding all

@@ -15,14 +15,11 @@ ghost use Rattle.keytable.specs.Table.{row_place, number_of_place, row_size_at, 
 ghost use Rattle.keytable.specs.Calls.{table_says, table_answer, find_use};
 ghost use Rattle.keytable.specs.Find.{found_says, found_answer};
 
-use octets::big_endian::read8;
 use octets::strings::part_in;
 use refusals::Refusal;
+use row::Row;
 use rows::Rows;
-use sizes::{
-    HEAD_SIZE, KEK_BY_SAI, KEK_BY_VALUE, KEY_AT, KEY_SIZE, NAME_AT, NAME_LENGTH_AT, NAME_MAX,
-    ROW_SIZE, TYPE_MAX, USE_AT,
-};
+use sizes::{HEAD_SIZE, KEK_BY_SAI, KEK_BY_VALUE, NAME_MAX, ROW_SIZE, TYPE_MAX};
 
 // The type of a row that is no key-encrypting key's: records and references look for it.
 pub const DATA_TYPE: usize = 0x0000;
@@ -66,23 +63,18 @@ pub fn place_of(i: u16) -> usize
 pub fn number_at(at: usize) -> usize
     ensures { result ≡ number_of_place at }
 {
-    if at < HEAD_SIZE {
-        return 0;
-    }
-    (at - HEAD_SIZE) / ROW_SIZE
+    at.saturating_sub(HEAD_SIZE) / ROW_SIZE
 }
 
 // How long the row at a place is: a row's size, or none where it does not lie in the table.
 fn row_size_at(t: &[u8], at: usize) -> usize
     ensures { result ≡ row_size_at t.now at }
 {
-    if at > t.len() {
-        return 0;
+    if t.len().saturating_sub(at) < ROW_SIZE {
+        0
+    } else {
+        ROW_SIZE
     }
-    if t.len() - at < ROW_SIZE {
-        return 0;
-    }
-    ROW_SIZE
 }
 
 // The row at a place, as the part of the table that it is, and none where it does not lie in the table.
@@ -96,20 +88,28 @@ pub fn row_at(t: &[u8], at: usize) -> &[u8]
 pub fn name_at(t: &[u8], at: usize) -> &[u8]
     ensures { placed result ≡ placed_name (placed_row (placed t.entry) at) }
 {
-    let row = row_at(t, at);
-    part_in(row, NAME_AT, read8(row, NAME_LENGTH_AT))
+    Row {
+        bytes: row_at(t, at),
+    }
+    .name()
 }
 
 pub fn use_at(t: &[u8], at: usize) -> u8
     ensures { result ≡ (row_at t.now at).row_use }
 {
-    read8(row_at(t, at), USE_AT) as u8
+    Row {
+        bytes: row_at(t, at),
+    }
+    .usage() as u8
 }
 
 pub fn key_at(t: &[u8], at: usize) -> &[u8]
     ensures { placed result ≡ placed_key (placed_row (placed t.entry) at) }
 {
-    part_in(row_at(t, at), KEY_AT, KEY_SIZE)
+    Row {
+        bytes: row_at(t, at),
+    }
+    .key()
 }
 
 // Stores the use of the row with this type and this whole name; or changes nothing, and is refused by 1 where the table is broken, 2 for an empty name, 3 for

@@ -9,7 +9,7 @@ ghost use Rattle.keytable.specs.Marks.{last_of_its_pair};
 
 use crate::ROW_MAX;
 use crate::mark_set::MarkSet;
-use crate::row::{answers_to, mark_of, name_of, row_ok, type_of};
+use crate::row::Row;
 use crate::sizes::{
     FIRST_ROW_AT, FORMAT_AT, HEAD_SIZE, ROW_COUNT_AT, ROW_LENGTH_AT, ROW_SIZE, TABLE_FORMAT,
 };
@@ -51,20 +51,22 @@ impl<'a> Rows<'a> {
     }
 
     // Row number i.
-    fn get(self, i: usize) -> &'a [u8]
+    fn get(self, i: usize) -> Row<'a>
         requires { i < self.count }
-        ensures { result.now ≡ part_of self.entry.table.now (row_place i) row_size }
+        ensures { result.bytes.now ≡ part_of self.entry.table.now (row_place i) row_size }
     {
         let at = HEAD_SIZE + ROW_SIZE * i;
         let end = at + ROW_SIZE;
-        &self.table[at..end]
+        Row {
+            bytes: &self.table[at..end],
+        }
     }
 
     // Whether each row keeps to the layout.
     pub(crate) fn keep_to_the_layout(self) -> bool
         ensures { result ≡ all row_ok (row_parts self.entry.table.now) }
     {
-        (0..self.count).all(|i| row_ok(self.get(i)))
+        (0..self.count).all(|i| self.get(i).keeps_to_the_layout())
     }
 
     // The place of the first row from number `from` on that has this type and this name.
@@ -73,7 +75,7 @@ impl<'a> Rows<'a> {
         ensures { found_says result ≡ found_says (place_from (row_place from) kind name.now (drop from (rows_of self.entry.table.now))) }
     {
         for i in from..self.count {
-            if answers_to(self.get(i), kind, name) {
+            if self.get(i).answers_to(kind, name) {
                 return Ok(HEAD_SIZE + ROW_SIZE * i);
             }
         }
@@ -87,7 +89,7 @@ impl<'a> Rows<'a> {
     {
         let next = i + 1;
         let this = self.get(i);
-        self.find_from(next, type_of(this), name_of(this)).is_err()
+        self.find_from(next, this.kind(), this.name()).is_err()
     }
 
     // Whether no two rows have the same type and the same name. It goes from the last row to the first: rows of one name have one mark, so a row is looked
@@ -98,7 +100,7 @@ impl<'a> Rows<'a> {
     {
         let mut seen = MarkSet::new();
         for i in (0..self.count).rev() {
-            let m = mark_of(self.get(i));
+            let m = self.get(i).mark();
             if seen.contains(m) && !self.last_of_its_pair(i) {
                 return false;
             }

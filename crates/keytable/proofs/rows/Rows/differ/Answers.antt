@@ -10,10 +10,10 @@ use Rattle.keytable.specs.Table.{row_place, row_count, rows_of, distinct}
 use Rattle.keytable.specs.Marks.{row_mark, last_of_its_pair}
 use Rattle.keytable.proofs.Lookup.{distinct-stop, distinct_turn, distinct_end, distinct-not}
 use Rattle.keytable.proofs.Marks.{Marked, mark_at, marked_end, marked_turn, marked_last}
-use Rattle.keytable.proofs.rows.Rows.differ.Goals.{After-mark_of-m, else-contains-via-then-contains+else-not-last_of_its_pair, else-contains-via-else-contains}
+use Rattle.keytable.proofs.rows.Rows.differ.Goals.{After-mark-m, else-contains-via-then-contains+else-not-last_of_its_pair, else-contains-via-else-contains}
 use Rattle.keytable.proofs.rows.Rows.differ.Goals as goal
 
-module _ (c : After-mark_of-m) where
+module _ (c : After-mark-m) where
   -- the table, the number of the row that is looked at, and its mark
   abbrev table : List ℕ
   table = c.args.self.table.now
@@ -22,7 +22,7 @@ module _ (c : After-mark_of-m) where
   number = c.loop-i.i - 1
 
   abbrev mark : ℕ
-  mark = c.mark_of-m.result
+  mark = c.mark-m.result
 
   below : number < row_count table
   below = omega arith
@@ -31,7 +31,7 @@ module _ (c : After-mark_of-m) where
   next = omega arith
 
   mark-is : mark ≡ mark_at table number
-  mark-is = c.mark_of-m.ensures.0 ∙ ap row_mark c.get.ensures
+  mark-is = c.mark-m.ensures.0 ∙ ap row_mark c.get.ensures
 
   later : Marked table c.loop-i.seen.words (number + 1)
   later = rw next c.loop-i.invariant.marked
@@ -44,13 +44,13 @@ loop-i-init c =
 
 pub returns-then-not-last_of_its_pair : goal.returns-then-not-last_of_its_pair
 returns-then-not-last_of_its_pair c =
-    let w = (goal.at.returns-then-not-last_of_its_pair c).After-mark_of-m in
+    let w = (goal.at.returns-then-not-last_of_its_pair c).After-mark-m in
     let again = sym c.last_of_its_pair.ensures ∙ c.if-not-last_of_its_pair.true in
     sym (distinct-not (rows_of (table w)) (number w) (distinct-stop (table w) (number w) (below w) again))
 
 pub loop-i-preserved : goal.loop-i-preserved
 loop-i-preserved c =
-    let w = (goal.at.loop-i-preserved c).After-mark_of-m in
+    let w = (goal.at.loop-i-preserved c).After-mark-m in
     let total : length (table w) ≡ row_place (row_count (table w)) = c.args.self.whole.0 ∙ ap row_place c.args.self.whole.1 in
     let last : last_of_its_pair (table w) (number w) ≡ true =
     elim c.else-contains.branch [

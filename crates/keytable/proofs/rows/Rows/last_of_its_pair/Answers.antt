@@ -16,4 +16,4 @@ returns c =
     c.is_err.ensures.value
     ∙ err-absent _ _ _ _ _ c.find_from.ensures
     ∙ ap₂ (λ (k : ℕ) (n : List ℕ). absent k n (drop (a.i + 1) (rows_of a.self.table.now)))
-    (c.type_of.ensures ∙ ap type_in row) (c.name_of.ensures ∙ ap name_of row)
+    (c.kind.ensures ∙ ap type_in row) (c.name.ensures.value ∙ ap name_of row)
