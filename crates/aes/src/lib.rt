@@ -5,8 +5,8 @@ mod backward;
 mod forward;
 mod schedule;
 
-ghost use Rattle.std.specs.Prelude.{◌≡◌};
-ghost use Rattle.octets.specs.Lent.{over};
+ghost use Rattle.std.specs.Prelude.{◌≡◌, true, false, MatchResult};
+ghost use Rattle.refusals.specs.Numbers.{outcome_number};
 ghost use Rattle.aes.specs.Cipher.{cipher};
 ghost use Rattle.aes.specs.InvCipher.{inv_cipher};
 ghost use Rattle.aes.specs.KeyExpansion.{schedule};
@@ -16,7 +16,8 @@ use aes_field::sbox_table;
 use aes_state::{State, add_round_key, load, store};
 use backward::all_inv_rounds;
 use forward::{all_rounds, last_round};
-use octets::strings::{Block, first16, first32, put};
+use octets::strings::{Block, first, put};
+use refusals::Refusal;
 use schedule::{extend, first_key, second_key};
 
 pub type Key = [u8; 32];
@@ -62,38 +63,31 @@ fn wrong_lengths(key: &[u8], block: &[u8]) -> bool
     (key.len() != KEY_SIZE) | (block.len() != BLOCK_SIZE)
 }
 
-// The block as it is, and 2.
-fn refuse(block: &mut [u8]) -> u8
-    ensures { (result ≡ 2) × (block.new ≡ block.old) }
+// The lent key and the lent block by value, where both have their lengths.
+fn read(key: &[u8], block: &[u8]) -> Result<(Key, Block), Refusal>
+    ensures { MatchResult result (λ r. (wrong_lengths key.now block.now ≡ false) × (r.0 ≡ key.now) × (r.1 ≡ block.now)) (λ e. (wrong_lengths key.now block.now ≡ true) × (e ≡ Refusal.Layout)) }
 {
-    2
-}
-
-// The result over the block, and 0.
-fn give(block: &mut [u8], done: Block) -> u8
-    ensures { (result ≡ 0) × (block.new ≡ over done block.old) }
-{
-    put(block, &done);
-    0
+    if wrong_lengths(key, block) {
+        return Err(Refusal::Layout);
+    }
+    Ok((first(key), first(block)))
 }
 
 // The block is changed in place, or not at all.
-pub fn encrypt_block(key: &[u8], block: &mut [u8]) -> u8
-    ensures { encrypt_block key.now block.old ≡ (result, block.new) }
+#[tactic(auto, unfolding(crate::specs::Calls::block_answer, crate::specs::Calls::block_number))]
+pub fn encrypt_block(key: &[u8], block: &mut [u8]) -> Result<(), Refusal>
+    ensures { encrypt_block key.now block.old ≡ (outcome_number result, block.new) }
 {
-    if wrong_lengths(key, block) {
-        return refuse(block);
-    }
-    let done = encrypt(expand_key(first32(key)), first16(block));
-    give(block, done)
+    let (k, plain) = read(key, block)?;
+    put(block, &encrypt(expand_key(k), plain));
+    Ok(())
 }
 
-pub fn decrypt_block(key: &[u8], block: &mut [u8]) -> u8
-    ensures { decrypt_block key.now block.old ≡ (result, block.new) }
+#[tactic(auto, unfolding(crate::specs::Calls::block_answer, crate::specs::Calls::block_number))]
+pub fn decrypt_block(key: &[u8], block: &mut [u8]) -> Result<(), Refusal>
+    ensures { decrypt_block key.now block.old ≡ (outcome_number result, block.new) }
 {
-    if wrong_lengths(key, block) {
-        return refuse(block);
-    }
-    let done = decrypt(expand_key(first32(key)), first16(block));
-    give(block, done)
+    let (k, ciphered) = read(key, block)?;
+    put(block, &decrypt(expand_key(k), ciphered));
+    Ok(())
 }
