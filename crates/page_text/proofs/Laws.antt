@@ -7,7 +7,6 @@ use borrow.Author.Tests.{le-ltb}
 use lib.ListN.{length, replicate}
 use Rattle.octets.specs.Tests.{all}
 use Rattle.octets.proofs.Lent.{length_over}
-use Rattle.octets.proofs.Unique.{unique-by}
 use Rattle.wording.specs.Decimal.{digits_within, decimal}
 use Rattle.descriptors.specs.Descriptor.{size_said, size_of}
 use Rattle.octets.specs.Split.{split_by}
@@ -18,7 +17,7 @@ use Rattle.keypage.specs.Page.{page_ok, fields_ok}
 use Rattle.keypage.specs.KeyPart.{part_broken, part_refused, part_long}
 use Rattle.keypage.specs.Read.{page_read_number}
 use Rattle.keypage.proofs.Reserved.{reserved-number}
-use Rattle.page_text.specs.declared.Text.{Text}
+use Rattle.wording.proofs.Told as Told
 use Rattle.page_text.specs.Listing.{field_lines, listing_number, listing, listing_max, listing_answer}
 use Rattle.page_text.specs.Laws.{LongRefused, EmptyRefused, ReservedListed, ExampleListed, WrongTypeListed, TextRoom, TextUnique}
 use Rattle.page_text.proofs.Listing.{listing-long}
@@ -50,5 +49,4 @@ text_room p bytes size e =
     sym (ap (λ (a : ℕ × List ℕ). length a.1) e) ∙ length_over (listing p) (replicate listing_max 0)
 
 pub text_unique : TextUnique
-text_unique p =
-    unique-by (λ (t : Text). (t.size, t.bytes)) (λ (a : ℕ × List ℕ). record { size = a.0; bytes = a.1 }) (λ t. refl) (listing_answer p)
+text_unique p = Told.text_unique (listing_answer p)

@@ -1,18 +1,21 @@
 -- The text of an input, by the tests that led there; and that each text fits its room.
 -- Assumes nothing.
-use mathlib.Core.Path.{◌≡◌, sym, ap, ◌∙◌}
-use mathlib.Core.List.{List}
-use Prim.Native.Nat.{ℕ, ◌^◌, ◌≤◌, ◌<◌}
+use mathlib.Core.Path.{◌≡◌, refl, sym, ap, ◌∙◌}
+use mathlib.Core.List.{List, [], ◌∷◌, ◌++◌, append_assoc, append-nil}
+use Prim.Native.Nat.{ℕ, suc, ◌+◌, ◌^◌, ◌≤◌, ◌<◌}
+use native.Mathlib.Numerals.{add-one}
 use native.Mathlib.Omega.{arith}
-use lib.ListN.{length, get_or, length-append}
+use lib.ListN.{length, get_or, take, drop, length-append, take-append-drop}
+use lib.Seq.{take-suc, drop-cons}
 use borrow.Author.Tests.{lt-ltb, le-ltb, ne_eqb}
 use Rattle.wording.specs.Decimal.{decimal}
-use Rattle.wording.specs.Lines.{refused_line}
+use Rattle.std.specs.Borrow.{Bor}
+use Rattle.wording.specs.Lines.{line, refused_line}
 use Rattle.wording.proofs.DecimalDigits.{length_decimal64}
 use Rattle.keypage.specs.Layout.{page_max}
 use Rattle.keypage.specs.Page.{fields_of}
 use Rattle.keypage.specs.Read.{page_read_number, page_read_answer}
-use Rattle.page_text.specs.Listing.{lines_in, field_lines, listing_number, listing, listing_max}
+use Rattle.page_text.specs.Listing.{lines_in, lines_said, field_lines, listing_number, listing, listing_max}
 
 -- ---- which text
 
@@ -41,6 +44,32 @@ module _ (p before : List ℕ) (short : length p ≤ page_max) {after : List ℕ
   pub listing-fields : n ≡ 0 → listing p ≡ lines_in after
   unfolding listing field_lines fields_of
   listing-fields done = rw (list-number, done, fields done)
+
+-- ---- lines one after the other: those before i, the one at i, and those after it
+
+abbrev Line : Type 0
+Line = Bor (List ℕ) × ℕ
+
+lines_both : (ls ms : List Line) → lines_said (ls ++ ms) ≡ lines_said ls ++ lines_said ms
+lines_both [] ms = refl
+lines_both (l ∷ ls) ms =
+    ap (λ (s : List ℕ). line l.0.now l.1 ++ s) (lines_both ls ms) ∙ sym (append_assoc (line l.0.now l.1) (lines_said ls) (lines_said ms))
+
+-- what reading past the end of a list of lines is said to give
+abbrev pub no_line : Line
+no_line = (record { ref_ptr = (0, 0); now = [] }, 0)
+
+module _ (ls : List Line) (i : ℕ) (h : i < length ls) {word : List ℕ} (is : word ≡ (get_or ls i no_line).0.now) where
+  pub lines_turn : lines_said (take (i + 1) ls) ≡ lines_said (take i ls) ++ line word (get_or ls i no_line).1
+  lines_turn =
+      rw (is, add-one, take-suc ls i no_line h)
+      (lines_both (take i ls) (get_or ls i no_line ∷ []) ∙ ap (λ (s : List ℕ). lines_said (take i ls) ++ s) (append-nil (line (get_or ls i no_line).0.now (get_or ls i no_line).1)))
+
+  pub lines_parted : lines_said ls ≡ lines_said (take i ls) ++ (line word (get_or ls i no_line).1 ++ lines_said (drop (suc i) ls))
+  lines_parted =
+      rw is
+      (ap lines_said (sym (take-append-drop i ls)) ∙ lines_both (take i ls) (drop i ls)
+      ∙ ap (λ (ms : List Line). lines_said (take i ls) ++ lines_said ms) (drop-cons ls i no_line h))
 
 -- ---- a number of 64 bits has at most 20 digits
 

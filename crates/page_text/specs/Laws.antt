@@ -6,7 +6,7 @@ use Rattle.wording.specs.Ascii.{ascii}
 use Rattle.keypage.specs.Layout.{page_max}
 use Rattle.keypage.specs.Laws.{HoldsReserved}
 use Rattle.page_text.specs.Listing.{listing, listing_max, listing_answer}
-use Rattle.page_text.specs.declared.Text.{Text}
+use Rattle.wording.specs.declared.text.Text.{Text}
 
 -- "One over 4,096 bytes prints `refused 4` with no other test."
 abbrev pub LongRefused : Type 0
@@ -45,4 +45,4 @@ TextRoom = (p bytes : List ℕ) (size : ℕ) → listing_answer p ≡ (size, byt
 
 -- for each input one text
 abbrev pub TextUnique : Type 0
-TextUnique = (p : List ℕ) → UniqueBy (λ (t : Text). (t.size, t.bytes)) (listing_answer p)
+TextUnique = (p : List ℕ) → UniqueBy (λ (t : Text listing_max). (t.size, t.bytes)) (listing_answer p)

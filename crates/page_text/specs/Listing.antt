@@ -1,6 +1,7 @@
 -- The page lister's text (document 01, "The page lister"): "It reads a page on standard input and prints its fields, or `refused` and the number."
 -- Assumes nothing.
-use Rattle.std.specs.Prelude.{ℕ, List, [], ◌∷◌, eqb, ltb, length, get_or, replicate}
+use Rattle.std.specs.Prelude.{ℕ, List, [], ◌∷◌, ◌++◌, eqb, ltb, length, get_or, replicate}
+use Rattle.std.specs.Borrow.{Bor}
 use Rattle.octets.specs.Lent.{when, over}
 use Rattle.wording.specs.Ascii.{ascii}
 use Rattle.wording.specs.Lines.{line, refused_line, together}
@@ -20,6 +21,11 @@ lines_of scope lock encrypt decrypt algorithm format length descriptors =
     ∷ line (ascii "key length") length
     ∷ line (ascii "descriptors") descriptors
     ∷ [])
+
+-- the lines of words and their numbers, one after the other
+abbrev pub lines_said : List (Bor (List ℕ) × ℕ) → List ℕ
+lines_said [] = []
+lines_said (l ∷ ls) = line l.0.now l.1 ++ lines_said ls
 
 unfoldable pub field_lines : List ℕ → List ℕ
 field_lines p =

@@ -18,10 +18,11 @@ use Rattle.octets.proofs.Unique.{unique}
 use Rattle.wording.specs.Decimal.{decimal, value_of}
 use Rattle.wording.specs.Hex.{is_hex_digit, digit_of, is_hex, hex_byte, hex_bytes, digits_of, hex_read}
 use Rattle.wording.specs.Lines.{space, newline, line, together}
-use Rattle.wording.specs.Writing.{nowhere, put_at, put_all}
-use Rattle.wording.specs.Laws.{DecimalReads, DecimalDigits, NoZeroBefore, LineReads, DigitsLength, ThereAndBack, ReadTestsRise, ReadUnique, NowhereStays, LastTells, PutUnique}
+use Rattle.wording.specs.Writing.{nowhere, put_at, put_all, Answer, writer_put, writer_puts}
+use Rattle.wording.specs.Laws.{DecimalReads, DecimalDigits, NoZeroBefore, LineReads, DigitsLength, ThereAndBack, ReadTestsRise, ReadUnique, NowhereStays, LastTells, said, WriterSays, WriterTells, WriterUnique, PutUnique}
 use Rattle.wording.proofs.DecimalDigits.{decimal_value, decimal_are, decimal_first}
 use Rattle.wording.proofs.Digits.{digit_counts, length-digits_of, read_done}
+use Rattle.wording.proofs.Puts.{writer-done, writer-not, writer_wrote, puts_fit, puts-past}
 use Rattle.wording.proofs.Wrote.{put-not, put_fits, put_wrote, wrote-length, Puts, puts, done, puts_wrote}
 
 -- ---- decimal digits
@@ -122,6 +123,29 @@ last_tells ss at room within h = go (leb (at + length (together ss)) (length roo
     go false e =
         let long = leb-false (at + length (together ss)) (length room) e in
         overruns ss at room within h long ∙ sym (ap (λ (a : ℕ × List ℕ). a.0) (put-not at (together ss) room long))
+
+pub writer_says : WriterSays
+writer_says s at room = go (leb (at + length s) (length room)) refl
+  where
+    go : (t : Bool) → leb (at + length s) (length room) ≡ t → said (writer_put s (at, room)) ≡ put_at at s room
+    go true e = ap said (writer-done s at room (leb-true (at + length s) (length room) e))
+    go false e =
+        let long = leb-false (at + length s) (length room) e in
+        ap said (writer-not s at room long) ∙ sym (put-not at s room long)
+
+pub writer_tells : WriterTells
+writer_tells ss at room within = go (leb (at + length (together ss)) (length room)) refl
+  where
+    go : (t : Bool) → leb (at + length (together ss)) (length room) ≡ t → (writer_puts ss (at, room)).0 ≡ (writer_put (together ss) (at, room)).0
+    go true e =
+        let h = leb-true (at + length (together ss)) (length room) e in
+        ap (λ (a : Answer). a.0) ((puts_fit ss h).2 ∙ sym (writer_wrote (puts_fit ss h).3))
+    go false e =
+        let long = leb-false (at + length (together ss)) (length room) e in
+        puts-past ss at room within long ∙ sym (ap (λ (a : Answer). a.0) (writer-not (together ss) at room long))
+
+pub writer_unique : WriterUnique
+writer_unique s w = unique (writer_put s w)
 
 pub put_unique : PutUnique
 put_unique at s room = unique (put_at at s room)

@@ -3,6 +3,7 @@ pub mod Number
 pub mod Digits
 pub mod Wrote
 pub mod Told
+pub mod Puts
 pub mod Laws
 pub mod MeaningLaws
 pub mod NumberLaws

@@ -1,6 +1,6 @@
 -- What reading and writing text promise, as statements; proofs/Laws.antt proves each.
 -- Assumes nothing.
-use Rattle.std.specs.Prelude.{◌≡◌, ℕ, ◌+◌, ◌-◌, ◌*◌, ◌≤◌, ◌<◌, Bool, true, List, length, get_or}
+use Rattle.std.specs.Prelude.{◌≡◌, ℕ, ◌+◌, ◌-◌, ◌*◌, ◌≤◌, ◌<◌, Bool, true, List, length, get_or, Ok, Err}
 use Rattle.octets.specs.Bytes.{Bytes}
 use Rattle.octets.specs.Lent.{over}
 use Rattle.octets.specs.Lowest.{rises}
@@ -9,7 +9,7 @@ use Rattle.octets.specs.Unique.{Unique}
 use Rattle.wording.specs.Decimal.{is_decimal_digit, decimal_digit, decimal, value_of}
 use Rattle.wording.specs.Hex.{digits_of, hex_read_tests, hex_read}
 use Rattle.wording.specs.Lines.{line, together}
-use Rattle.wording.specs.Writing.{nowhere, put_at, put_all}
+use Rattle.wording.specs.Writing.{nowhere, put_at, put_all, Place, Answer, writer_put, writer_puts}
 
 -- ---- decimal digits: read back they are the number, each is a digit, and no zero stands before others
 
@@ -55,6 +55,21 @@ abbrev pub LastTells : Type 0
 LastTells =
     (ss : List (List ℕ)) (at : ℕ) (room : List ℕ) → at ≤ length room → length room < nowhere → (put_all at ss room).0 ≡ (put_at at (together ss) room).0
 
--- for each text, place and room one answer and one state of the room
+-- what a writer answers to a text is what `put_at` says: the place after it, or that there is none
+abbrev pub said : Answer → Place
+said (Ok u, w) = w
+said (Err e, w) = (nowhere, w.1)
+
+abbrev pub WriterSays : Type 0
+WriterSays = (s : List ℕ) (at : ℕ) (room : List ℕ) → said (writer_put s (at, room)) ≡ put_at at s room
+
+-- texts put one after the other, up to the first that does not fit, are all of them put at once, or refused with what fits of them
+abbrev pub WriterTells : Type 0
+WriterTells = (ss : List (List ℕ)) (at : ℕ) (room : List ℕ) → at ≤ length room → (writer_puts ss (at, room)).0 ≡ (writer_put (together ss) (at, room)).0
+
+-- for each text, place and room one answer, one place and one state of the room
+abbrev pub WriterUnique : Type 0
+WriterUnique = (s : List ℕ) (w : Place) → Unique (writer_put s w)
+
 abbrev pub PutUnique : Type 0
 PutUnique = (at : ℕ) (s room : List ℕ) → Unique (put_at at s room)

@@ -5,6 +5,7 @@ pub mod Hex
 pub mod Lines
 pub mod ByValue
 pub mod Writing
+pub mod Writer
 pub mod Laws
 pub mod Meaning
 pub mod MeaningLaws

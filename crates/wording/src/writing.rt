@@ -1,15 +1,17 @@
-// Text written into lent room: each function puts all of its text at a place and answers the place after it, or, where
-// the text does not fit, changes nothing and answers NOWHERE. No text fits at NOWHERE.
-ghost use Rattle.std.specs.Prelude.{◌≡◌, ◌+◌, [], ◌∷◌, ◌++◌, leb};
+// Text written into lent room: each method puts all of its text at the writer's place, which moves past it, or, where
+// the text does not fit, changes nothing and refuses with NoRoom (5).
+ghost use Rattle.std.specs.Prelude.{◌≡◌, ◌+◌, [], ◌∷◌, ◌++◌, leb, length};
 ghost use Rattle.wording.specs.Decimal.{decimal};
 ghost use Rattle.wording.specs.Hex.{digits_of, digits_shown};
 ghost use Rattle.wording.specs.Lines.{line};
-ghost use Rattle.wording.specs.Writing.{put_at};
+ghost use Rattle.wording.specs.Writer.{Writes};
+ghost use Rattle.wording.specs.Writing.{writer_put};
 
 use crate::hex::digit_of;
-use octets::strings::put;
-
-pub const NOWHERE: usize = 18446744073709551615;
+pub use crate::old_writing::{
+    NOWHERE, put_byte, put_decimal, put_hex, put_line, put_shown, put_string,
+};
+use refusals::Refusal;
 
 // The most decimal digits that a number of 64 bits has.
 const DIGITS_MAX: usize = 20;
@@ -17,98 +19,103 @@ const DIGITS_MAX: usize = 20;
 // These, a space before them and a newline after them.
 const LINE_END_MAX: usize = 22;
 
-// Whether so many bytes from a place on lie within the room.
-fn has_room(room: usize, at: usize, size: usize) -> bool
-    ensures { result ≡ leb (at + size) room }
-{
-    if room < at {
-        return false;
-    }
-    if room - at < size {
-        return false;
-    }
-    true
+// A lent room, and the place in it where the next text goes.
+#[derive(Drop)]
+pub struct Writer<'a> {
+    pub out: &'a mut [u8],
+    pub at: usize,
 }
 
-pub fn put_string(out: &mut [u8], at: usize, s: &[u8]) -> usize
-    ensures { put_at at s.now out.old ≡ (result, out.new) }
-{
-    if !has_room(out.len(), at, s.len()) {
-        return NOWHERE;
+impl Writer<'_> {
+    // Whether so many bytes more lie within the room.
+    fn has_room(&self, size: usize) -> bool
+        ensures { result ≡ leb (self.now.at + size) (length self.now.out.now) }
+    {
+        self.at <= self.out.len() && size <= self.out.len() - self.at
     }
-    put(&mut out[at..], s);
-    at + s.len()
-}
 
-pub fn put_byte(out: &mut [u8], at: usize, b: u8) -> usize
-    ensures { put_at at (b ∷ []) out.old ≡ (result, out.new) }
-{
-    let s = [b];
-    put_string(out, at, &s)
-}
-
-// One string after the other, both or neither.
-fn put_two(out: &mut [u8], at: usize, s: &[u8], t: &[u8]) -> usize
-    ensures { put_at at (s.now ++ t.now) out.old ≡ (result, out.new) }
-{
-    if !has_room(out.len(), at, s.len() + t.len()) {
-        return NOWHERE;
+    pub fn put_string(&mut self, s: &[u8]) -> Result<(), Refusal>
+        ensures { Writes (writer_put s.now) self.old self.new result }
+    {
+        if !self.has_room(s.len()) {
+            return Err(Refusal::NoRoom);
+        }
+        let end = self.at + s.len();
+        self.out[self.at..end].copy_from_slice(s);
+        self.at = end;
+        Ok(())
     }
-    let middle = put_string(out, at, s);
-    put_string(out, middle, t)
-}
 
-// The decimal digits of n, found from the last to the first.
-pub fn put_decimal(out: &mut [u8], at: usize, n: u64) -> usize
-    ensures { put_at at (decimal n) out.old ≡ (result, out.new) }
-{
-    let mut digits = [0u8; DIGITS_MAX];
-    let mut first = DIGITS_MAX;
-    let mut rest = n;
-    while rest >= 10 {
+    pub fn put_byte(&mut self, b: u8) -> Result<(), Refusal>
+        ensures { Writes (writer_put (b ∷ [])) self.old self.new result }
+    {
+        self.put_string(&[b])
+    }
+
+    // The decimal digits of n, found from the last to the first.
+    pub fn put_decimal(&mut self, n: u64) -> Result<(), Refusal>
+        ensures { Writes (writer_put (decimal n)) self.old self.new result }
+    {
+        let mut digits = [0u8; DIGITS_MAX];
+        let mut first = DIGITS_MAX;
+        let mut rest = n;
+        while rest >= 10 {
+            first -= 1;
+            digits[first] = b'0' + (rest % 10) as u8;
+            rest /= 10;
+        }
         first -= 1;
-        digits[first] = b'0' + (rest % 10) as u8;
-        rest /= 10;
+        digits[first] = b'0' + rest as u8;
+        self.put_string(&digits[first..])
     }
-    first -= 1;
-    digits[first] = b'0' + rest as u8;
-    put_string(out, at, &digits[first..])
-}
 
-// The hexadecimal digits of a string, with capital or small letters.
-pub fn put_hex(out: &mut [u8], at: usize, s: &[u8], capital: bool) -> usize
-    ensures { put_at at (digits_of capital s.now) out.old ≡ (result, out.new) }
-{
-    if !has_room(out.len(), at, 2 * s.len()) {
-        return NOWHERE;
+    // The hexadecimal digits of a string, with capital or small letters.
+    pub fn put_hex(&mut self, s: &[u8], capital: bool) -> Result<(), Refusal>
+        ensures { Writes (writer_put (digits_of capital s.now)) self.old self.new result }
+    {
+        if !self.has_room(2 * s.len()) {
+            return Err(Refusal::NoRoom);
+        }
+        for b in s {
+            self.put_string(&[digit_of(*b / 16, capital), digit_of(*b % 16, capital)])?;
+        }
+        Ok(())
     }
-    let mut end = at;
-    let mut i = 0;
-    while i < s.len() {
-        end = put_byte(out, end, digit_of(s[i] / 16, capital));
-        end = put_byte(out, end, digit_of(s[i] % 16, capital));
-        i += 1;
-    }
-    end
-}
 
-// The same, and `-` where there are none.
-pub fn put_shown(out: &mut [u8], at: usize, s: &[u8], capital: bool) -> usize
-    ensures { put_at at (digits_shown capital s.now) out.old ≡ (result, out.new) }
-{
-    if s.len() == 0 {
-        return put_byte(out, at, b'-');
+    // The same, and `-` where there are none.
+    pub fn put_shown(&mut self, s: &[u8], capital: bool) -> Result<(), Refusal>
+        ensures { Writes (writer_put (digits_shown capital s.now)) self.old self.new result }
+    {
+        if s.is_empty() {
+            return self.put_byte(b'-');
+        }
+        self.put_hex(s, capital)
     }
-    put_hex(out, at, s, capital)
-}
 
-// A word, a space, a number and a newline.
-pub fn put_line(out: &mut [u8], at: usize, word: &[u8], n: u64) -> usize
-    ensures { put_at at (line word.now n) out.old ≡ (result, out.new) }
-{
-    let mut end = [0u8; LINE_END_MAX];
-    let number_at = put_byte(&mut end, 0, b' ');
-    let newline_at = put_decimal(&mut end, number_at, n);
-    let size = put_byte(&mut end, newline_at, b'\n');
-    put_two(out, at, word, &end[..size])
+    // One string after the other, both or neither.
+    fn put_two(&mut self, s: &[u8], t: &[u8]) -> Result<(), Refusal>
+        ensures { Writes (writer_put (s.now ++ t.now)) self.old self.new result }
+    {
+        if !self.has_room(s.len() + t.len()) {
+            return Err(Refusal::NoRoom);
+        }
+        self.put_string(s)?;
+        self.put_string(t)
+    }
+
+    // A word, a space, a number and a newline.
+    pub fn put_line(&mut self, word: &[u8], n: u64) -> Result<(), Refusal>
+        ensures { Writes (writer_put (line word.now n)) self.old self.new result }
+    {
+        let mut room = [0u8; LINE_END_MAX];
+        let mut end = Writer {
+            out: &mut room,
+            at: 0,
+        };
+        end.put_byte(b' ')?;
+        end.put_decimal(n)?;
+        end.put_byte(b'\n')?;
+        let size = end.at;
+        self.put_two(word, &room[..size])
+    }
 }

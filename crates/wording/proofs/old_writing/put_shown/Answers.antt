@@ -1,9 +1,9 @@
--- `wording::writing::put_shown` meets its contract.
+-- `wording::old_writing::put_shown` meets its contract.
 -- Assumes nothing.
 use borrow.Author.Tests.{eq-eqb, ne_eqb}
 use lib.ListN.{length}
 use Rattle.wording.specs.Hex.{digits_shown}
-use Rattle.wording.proofs.writing.put_shown.Goals as goal
+use Rattle.wording.proofs.old_writing.put_shown.Goals as goal
 
 pub returns-then-s-eq0 : goal.returns-then-s-eq0
 unfolding digits_shown

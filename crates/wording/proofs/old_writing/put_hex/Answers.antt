@@ -1,4 +1,4 @@
--- `wording::writing::put_hex` meets its contract: after i turns the digits of the first i bytes are written.
+-- `wording::old_writing::put_hex` meets its contract: after i turns the digits of the first i bytes are written.
 -- Assumes nothing.
 use mathlib.Core.Path.{sym, ap, ◌∙◌}
 use mathlib.Core.List.{List}
@@ -11,7 +11,7 @@ use Rattle.wording.specs.Hex.{digits_of}
 use Rattle.wording.specs.Writing.{put_at}
 use Rattle.wording.proofs.Digits.{length-digits_of}
 use Rattle.wording.proofs.Wrote.{put-not, put_wrote, wrote_none, puts, done, hex_turn}
-use Rattle.wording.proofs.writing.put_hex.Goals as goal
+use Rattle.wording.proofs.old_writing.put_hex.Goals as goal
 
 pub returns-then-not-has_room : goal.returns-then-not-has_room
 returns-then-not-has_room c =

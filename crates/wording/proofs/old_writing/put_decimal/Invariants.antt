@@ -1,5 +1,5 @@
 use Rattle.wording.proofs.DecimalDigits.{Found}
-use Rattle.wording.proofs.writing.put_decimal.Given as goal
+use Rattle.wording.proofs.old_writing.put_decimal.Given as goal
 
 abbrev pub invariant-loop-rest : goal.invariant-loop-rest
 invariant-loop-rest l = Found l.n l.rest l.first l.digits

@@ -1,4 +1,4 @@
--- `wording::writing::put_decimal` meets its contract: each turn finds one digit more.
+-- `wording::old_writing::put_decimal` meets its contract: each turn finds one digit more.
 -- Assumes nothing.
 use mathlib.Core.Path.{sym, ap, ◌∙◌}
 use mathlib.Core.List.{List}
@@ -6,7 +6,7 @@ use Prim.Native.Nat.{ℕ}
 use native.Mathlib.Omega.{arith}
 use Rattle.wording.specs.Writing.{put_at}
 use Rattle.wording.proofs.DecimalDigits.{found_left, found_turn, found_end}
-use Rattle.wording.proofs.writing.put_decimal.Goals as goal
+use Rattle.wording.proofs.old_writing.put_decimal.Goals as goal
 
 pub overflow_sub-first : goal.overflow_sub-first
 overflow_sub-first c = found_left c.ranges.n.fits c.loop-rest.invariant

@@ -2,7 +2,7 @@ use Prim.Native.Nat.{◌+◌, ◌-◌, ◌*◌, ◌≤◌}
 use lib.ListN.{length, take}
 use Rattle.wording.specs.Hex.{digits_of}
 use Rattle.wording.specs.Writing.{Wrote}
-use Rattle.wording.proofs.writing.put_hex.Given as goal
+use Rattle.wording.proofs.old_writing.put_hex.Given as goal
 
 abbrev pub invariant-loop-i : goal.invariant-loop-i
 invariant-loop-i l =

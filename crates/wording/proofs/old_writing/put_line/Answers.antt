@@ -1,4 +1,4 @@
--- `wording::writing::put_line` meets its contract: what ends the line stands whole in its 22 bytes.
+-- `wording::old_writing::put_line` meets its contract: what ends the line stands whole in its 22 bytes.
 -- Assumes nothing.
 use mathlib.Core.Path.{sym, ap, ◌∙◌}
 use mathlib.Core.List.{List, [], ◌∷◌, ◌++◌}
@@ -10,8 +10,8 @@ use Rattle.wording.specs.Decimal.{decimal}
 use Rattle.wording.specs.Lines.{space, newline}
 use Rattle.wording.specs.Writing.{put_at, Wrote}
 use Rattle.wording.proofs.Wrote.{wrote-length, wrote_taken, line_end}
-use Rattle.wording.proofs.writing.put_line.Goals.{After-put_byte-size}
-use Rattle.wording.proofs.writing.put_line.Goals as goal
+use Rattle.wording.proofs.old_writing.put_line.Goals.{After-put_byte-size}
+use Rattle.wording.proofs.old_writing.put_line.Goals as goal
 
 ended : (c : After-put_byte-size) → Wrote 0 (space ∷ (decimal c.args.n ++ newline ∷ [])) (replicate 22 0) c.put_byte-size.new.out c.put_byte-size.result
 ended c =

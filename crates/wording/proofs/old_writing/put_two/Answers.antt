@@ -1,10 +1,10 @@
--- `wording::writing::put_two` meets its contract.
+-- `wording::old_writing::put_two` meets its contract.
 -- Assumes nothing.
 use mathlib.Core.Path.{sym, ◌∙◌}
 use lib.ListN.{length-append}
 use borrow.Author.Tests.{leb-true, leb-false}
 use Rattle.wording.proofs.Wrote.{put-not, put_then}
-use Rattle.wording.proofs.writing.put_two.Goals as goal
+use Rattle.wording.proofs.old_writing.put_two.Goals as goal
 
 pub returns-then-not-has_room : goal.returns-then-not-has_room
 returns-then-not-has_room c =

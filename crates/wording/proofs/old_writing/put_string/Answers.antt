@@ -1,12 +1,12 @@
--- `wording::writing::put_string` meets its contract.
+-- `wording::old_writing::put_string` meets its contract.
 -- Assumes nothing.
 use mathlib.Core.Path.{refl, sym, ◌∙◌}
 use Prim.Native.Nat.{◌+◌, ◌-◌, ◌≤◌}
 use lib.ListN.{length}
 use borrow.Author.Tests.{leb-true, leb-false}
 use Rattle.wording.proofs.Wrote.{put-not, put_wrote, wrote_part}
-use Rattle.wording.proofs.writing.put_string.Goals.{Else-not-has_room}
-use Rattle.wording.proofs.writing.put_string.Goals as goal
+use Rattle.wording.proofs.old_writing.put_string.Goals.{Else-not-has_room}
+use Rattle.wording.proofs.old_writing.put_string.Goals as goal
 
 room : (c : Else-not-has_room) → c.args.at + length c.args.s.now ≤ length c.args.out.now
 room c = leb-true _ _ (sym c.has_room.ensures ∙ c.if-not-has_room.false)
