@@ -1,50 +1,27 @@
--- Where the parts of a page are: the answer by the number that the code has, and what the places tell of an accepted page.
+-- Where the parts of a page are: the answer of an accepted page, and what the places tell of an accepted page.
 -- Assumes nothing.
 use mathlib.Core.Path.{◌≡◌, refl, sym, ap, ◌∙◌}
-use mathlib.Core.Bool.{Bool, true, false}
-use mathlib.Core.List.{List, [], ◌∷◌}
+use mathlib.Core.List.{List, ◌∷◌}
 use Prim.Native.Nat.{ℕ, ◌+◌, ◌-◌, ◌≤◌}
 use native.Mathlib.Omega.{arith}
-use borrow.Author.Tests.{ne_eqb}
-use lib.Dec.{eqb}
-use lib.ListN.{length, get_or, drop}
-use Rattle.octets.specs.Lent.{when}
+use lib.ListN.{length, drop}
 use Rattle.octets.specs.Tests.{part_of}
 use Rattle.octets.proofs.Tests.{part_short, drop_part, part_part}
 use Rattle.octets.proofs.Unique.{unique}
 use Rattle.keypage.specs.Layout.{key_part_at}
 use Rattle.keypage.specs.Page.{format_in, key_length_lem, key_part_lem, list_at}
-use Rattle.keypage.specs.KeyPart.{plain_format, reference_format, wrapped_format, identifier_size_lem, identifier_at, wrapped_at}
+use Rattle.keypage.specs.KeyPart.{identifier_size_lem, identifier_at, wrapped_at}
 use Rattle.keypage.specs.Read.{page_read_number}
-use Rattle.keypage.specs.Places.{not_wrapped, wrapped_places, part_places, places_of, places_answer}
+use Rattle.keypage.specs.Places.{not_wrapped, wrapped_places, places_of, places_answer}
 use Rattle.keypage.specs.Laws.{PartLaid, plain, reference, wrapped, PlacesTell, WrappedTold, WrappedTell, OthersTellNone, PlacesUnique}
 use Rattle.keypage.proofs.KeyPart.{of-wrapped, not-wrapped, part_laid}
 use Rattle.keypage.proofs.Page.{read_part}
 
--- the three places of a KEY part, taken one by one
-pub three_listed : (p rest s : List ℕ) (f : ℕ) → rest ≡ part_places f s → f ≡ format_in p → s ≡ key_part_lem p
-    → get_or rest 0 0 ∷ get_or rest 1 0 ∷ get_or rest 2 0 ∷ [] ≡ part_places (format_in p) (key_part_lem p)
-three_listed p rest s f e is-format is-part = rw (e, is-format, is-part) (go (eqb (format_in p) plain_format) (eqb (format_in p) reference_format) (eqb (format_in p) wrapped_format))
-  where
-    each : Bool → Bool → Bool → List ℕ
-    each a b c = when a not_wrapped (when b not_wrapped (when c (wrapped_places (key_part_lem p)) not_wrapped))
+-- ---- the answer of an accepted page
 
-    go : (a b c : Bool) → get_or (each a b c) 0 0 ∷ get_or (each a b c) 1 0 ∷ get_or (each a b c) 2 0 ∷ [] ≡ each a b c
-    go true b c = refl
-    go false true c = refl
-    go false false true = refl
-    go false false false = refl
-
--- ---- the answer, by the number that the code has
-
-module _ (p at : List ℕ) (n : ℕ) (is : n ≡ page_read_number p) where
-  pub places-refused : (n ≡ 0 → ⊥) → places_answer p at ≡ (n, at)
-  unfolding places_answer
-  places-refused refused = rw (← is, ne_eqb n 0 refused)
-
-  pub places_stored : n ≡ 0 → places_answer p at ≡ (0, places_of p)
-  unfolding places_answer
-  places_stored done = rw (← is, done)
+places_stored : (p at : List ℕ) → page_read_number p ≡ 0 → places_answer p at ≡ (0, places_of p)
+unfolding places_answer
+places_stored p at done = rw done
 
 -- ---- what the places tell
 
@@ -54,7 +31,7 @@ module _ (p before at : List ℕ) (e : places_answer p before ≡ (0, at)) where
   accepted = ap (λ (x : ℕ × List ℕ). x.0) e
 
   stored : at ≡ places_of p
-  stored = ap (λ (x : ℕ × List ℕ). x.1) (sym e ∙ places_stored p before 0 (sym accepted) refl)
+  stored = ap (λ (x : ℕ × List ℕ). x.1) (sym e ∙ places_stored p before accepted)
 
 pub places_tell : PlacesTell
 unfolding places_of

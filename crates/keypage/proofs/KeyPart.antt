@@ -1,4 +1,4 @@
--- The KEY part by its format: what each format's value has, which formats are known, what its tests tell, and what passes them.
+-- The KEY part by its format: what format 04h's value has, which formats are known, what its tests tell, and what passes them.
 -- Assumes nothing.
 use mathlib.Core.Path.{◌≡◌, refl, sym, ap}
 use mathlib.Core.Bool.{Bool, true, false, not, ◌||◌, false≢true}
@@ -17,20 +17,10 @@ use Rattle.keypage.specs.KeyPart.{plain_format, reference_format, wrapped_format
 use Rattle.keypage.specs.KeyPart.{kek_type, identifier_size_lem, identifier_at, wrapped_tests, part_broken, part_refused, part_long}
 use Rattle.keypage.specs.Laws.{PartLaid, plain, reference, wrapped}
 
--- ---- what each format's value has, once the format is known
+-- ---- what format 04h's value has
 
-module _ {A : Type 0} (f : ℕ) (plain reference wrapped other : A) where
-  pub of_plain : f ≡ plain_format → by_format f plain reference wrapped other ≡ plain
-  of_plain e = rw e
-
-  pub of-reference : f ≡ reference_format → by_format f plain reference wrapped other ≡ reference
-  of-reference e = rw e
-
-  pub of-wrapped : f ≡ wrapped_format → by_format f plain reference wrapped other ≡ wrapped
-  of-wrapped e = rw e
-
-  pub of_other : (f ≡ plain_format → ⊥) → (f ≡ reference_format → ⊥) → (f ≡ wrapped_format → ⊥) → by_format f plain reference wrapped other ≡ other
-  of_other a b c = rw (ne_eqb f plain_format a, ne_eqb f reference_format b, ne_eqb f wrapped_format c)
+pub of-wrapped : {A : Type 0} (f : ℕ) (a b c d : A) → f ≡ wrapped_format → by_format f a b c d ≡ c
+of-wrapped f a b c d e = rw e
 
 -- where all formats but one have the same
 pub not-wrapped : {A : Type 0} (f : ℕ) (one others : A) → (f ≡ wrapped_format → ⊥) → by_format f others others one others ≡ others

@@ -21,8 +21,7 @@ use Rattle.keypage.specs.Page.{algorithm_in, format_in, key_part_lem, fields_of}
 use Rattle.keypage.specs.KeyPart.{plain_format, reference_format, wrapped_format, kek_type, identifier_of, wrapped_of, part_refused}
 use Rattle.keypage.specs.Read.{page_read_number, page_read_answer}
 use Rattle.keypage.specs.Load.{kek_row, row_named, key_in, key_loaded, load_answer}
-use Rattle.keypage.specs.Laws.{Readable, ReadsExactly, Loads, LoadsPlain, LoadsReference, WrapsUnder, LoadsWrapped, NoRowSix}
-use Rattle.keypage.specs.Laws.{KekMatched, LoadsWhatWraps, OneKeyWraps, LoadNineExactly, NineSays}
+use Rattle.keypage.specs.Laws.{Readable, ReadsExactly, Loads, LoadsPlain, LoadsReference, WrapsUnder, LoadsWrapped, NoRowSix, KekMatched, LoadsWhatWraps, OneKeyWraps, LoadNineExactly, NineSays}
 use Rattle.keypage.specs.Laws.{LoadOtherRows, ReferenceBesideKek, WrappedBesideData, PageReadTestsRise, PartTestsRise, LoadTestsRise, PageReadUnique, LoadUnique}
 use Rattle.keypage.proofs.ReadNumbers.{read_passed, page-fields}
 use Rattle.keypage.proofs.Page.{passed_read, passed-readable, readable_passed, answer_told, read_part}
@@ -40,10 +39,10 @@ reads_exactly p fields after = (to, from)
     to : page_read_answer p fields ≡ (0, after) → Readable p × (after ≡ fields_of p)
     to e =
         let zero = answer_told p fields after e in
-        (passed-readable p (read_passed p zero), ap (λ (x : ℕ × List ℕ). x.1) (sym e ∙ page-fields p fields 0 (sym zero) refl))
+        (passed-readable p (read_passed p zero), ap (λ (x : ℕ × List ℕ). x.1) (sym e ∙ page-fields p fields zero))
 
     from : Readable p × (after ≡ fields_of p) → page_read_answer p fields ≡ (0, after)
-    from h = page-fields p fields 0 (sym (passed_read p (readable_passed p h.0))) refl ∙ ap (λ (l : List ℕ). (0, l)) (sym h.1)
+    from h = page-fields p fields (passed_read p (readable_passed p h.0)) ∙ ap (λ (l : List ℕ). (0, l)) (sym h.1)
 
 -- ---- loading
 

@@ -6,48 +6,40 @@ use mathlib.Core.List.{List, ◌∷◌}
 use mathlib.Core.Option.{Option, some, none}
 use Prim.Native.Nat.{ℕ, ◌≤◌}
 use borrow.Author.Tests.{ne_eqb, le-ltb}
-use lib.Dec.{eqb, ltb}
+use lib.Dec.{ltb}
 use lib.ListN.{length}
-use Rattle.octets.specs.Lent.{lowest, over, kept, answer}
+use Rattle.std.specs.Prelude.{Result, Ok, Err, MatchOption}
+use Rattle.std.specs.Result.{result_ok}
+use Rattle.octets.specs.Lent.{lowest, kept, answer}
 use Rattle.octets.proofs.Lent.{is_not_right}
 use Rattle.octets.proofs.Lowest.{lowest-refused}
+use Rattle.refusals.specs.Numbers.{number_of}
+use Rattle.refusals.specs.declared.Refusal.{Refusal}
+use Rattle.refusals.proofs.Laws.{not_zero}
 use Rattle.keytable.specs.Row.{row_key_size, Row}
+use Rattle.keytable.specs.Table.{table_ok, row_for, row_at}
+use Rattle.keytable.specs.Find.{found_says, found_answer}
+use Rattle.keytable.proofs.RowFound.{no_row, the_row, row-key}
 use Rattle.keywrap.specs.Calls.{unwrap_number, unwrap_answer}
 use Rattle.keypage.specs.Page.{algorithm_in, format_in, key_part_lem, fields_of}
-use Rattle.keypage.specs.KeyPart.{plain_format, reference_format, wrapped_format, wrapped_of}
+use Rattle.keypage.specs.KeyPart.{wrapped_format, wrapped_of}
 use Rattle.keypage.specs.Read.{page_read_tests, page_read_number}
-use Rattle.keypage.specs.Load.{part_tests, key_loaded, part_answer, load_tests, load_number, load_row}
+use Rattle.keypage.specs.Load.{part_tests, key_loaded, part_answer, load_tests, load_number, load_row, row_named, load_answer}
 use Rattle.keypage.proofs.ReadNumbers.{read_passed}
 
 -- ---- the KEY part by the row that matched, the algorithm index and the format
 
-module _ (row : Option Row) (algorithm : ℕ) (s out : List ℕ) where
-  pub plain-zero : (f : ℕ) → f ≡ plain_format → part_answer row algorithm f s out ≡ (0, over s out)
-  unfolding key_loaded
-  plain-zero f e = rw e
+-- the unwrapping's own 2 and 5 cannot come
+pub wrapped_rest : (row : Option Row) (found : Row) (algorithm : ℕ) (s out : List ℕ) → row ≡ some found → length found.row_key ≡ row_key_size → row_key_size ≤ length out
+    → part_answer row algorithm wrapped_format s out ≡ unwrap_answer found.row_key (wrapped_of s) out
+unfolding key_loaded unwrap_answer unwrap_number
+wrapped_rest row found algorithm s out has size room = rw (has, is_not_right row_key_size found.row_key size, le-ltb (length out) row_key_size room)
 
-  pub reference_six : row ≡ none → part_answer row algorithm reference_format s out ≡ (6, out)
-  unfolding key_loaded
-  reference_six e = rw e
-
-  pub wrapped_six : row ≡ none → part_answer row algorithm wrapped_format s out ≡ (6, out)
-  unfolding key_loaded
-  wrapped_six e = rw e
-
-  module _ (found : Row) (has : row ≡ some found) where
-    pub reference_seven : eqb found.row_use algorithm ≡ false → part_answer row algorithm reference_format s out ≡ (7, out)
-    unfolding key_loaded
-    reference_seven e = rw (has, e)
-
-    pub reference-zero : eqb found.row_use algorithm ≡ true → part_answer row algorithm reference_format s out ≡ (0, over found.row_key out)
-    unfolding key_loaded
-    reference-zero e = rw (has, e)
-
-    -- the unwrapping's own 2 and 5 cannot come
-    pub wrapped-rest : length found.row_key ≡ row_key_size → row_key_size ≤ length out
-        → part_answer row algorithm wrapped_format s out ≡ unwrap_answer found.row_key (wrapped_of s) out
-    unfolding key_loaded unwrap_answer unwrap_number
-    wrapped-rest size room = rw (has, is_not_right row_key_size found.row_key size, le-ltb (length out) row_key_size room)
+-- the row that a lookup in an accepted table found
+pub row_of : (t : List ℕ) (type : ℕ) (name : List ℕ) (f : Result ℕ Refusal) → table_ok t ≡ true → found_says f ≡ found_answer t type name
+    → MatchOption (result_ok f) (row_for t type name ≡ none) (λ at. (row_for t type name ≡ some (row_at t at)) × (length (row_at t at).row_key ≡ row_key_size))
+row_of t type name (Ok at) ok e = (the_row t type name (Ok at) ok e at refl, row-key t type name (Ok at) ok e at refl)
+row_of t type name (Err r) ok e = no_row t type name (Err r) ok e (λ p w. cc)
 
 -- ---- the load
 
@@ -58,10 +50,6 @@ unfolding load_number
 load-number ok row p room good readable fits = let passed = read_passed p readable in rw (good, passed.whole, passed.permitted, passed.short, fits)
 
 module _ (ok : Bool) (row : Option Row) (p out fields : List ℕ) where
-  pub load_one : ok ≡ false → load_row ok row p out fields ≡ ((1, out), fields)
-  unfolding load_row load_number
-  load_one e = rw e
-
   module _ (good : ok ≡ true) where
     -- a page that reading refuses
     unread-number : (n : ℕ) → n ≡ page_read_number p → (n ≡ 0 → ⊥) → load_number ok row p (length out) ≡ n
@@ -76,10 +64,6 @@ module _ (ok : Bool) (row : Option Row) (p out fields : List ℕ) where
     load_unread n is refused = rw (unread-number n is refused, ne_eqb n 0 refused)
 
     module _ (readable : page_read_number p ≡ 0) where
-      pub load_five : ltb (length out) row_key_size ≡ true → load_row ok row p out fields ≡ ((5, out), fields)
-      unfolding load_row load_number
-      load_five e = let passed = read_passed p readable in rw (good, passed.whole, passed.permitted, passed.short, e)
-
       -- the KEY part decides
       module _ (fits : ltb (length out) row_key_size ≡ false) (x : ℕ) (after : List ℕ) (e : part_answer row (algorithm_in p) (format_in p) (key_part_lem p) out ≡ (x, after)) where
         pub load-by_the_part : load_row ok row p out fields ≡ ((x, after), kept x (fields_of p) fields)
@@ -88,8 +72,18 @@ module _ (ok : Bool) (row : Option Row) (p out fields : List ℕ) where
             ap (λ (n : ℕ). (answer n (key_loaded row (format_in p) (key_part_lem p)) out, kept n (fields_of p) fields)) (load-number ok row p (length out) good readable fits)
             ∙ ap (λ (z : ℕ × List ℕ). (z, kept z.0 (fields_of p) fields)) e
 
-        pub load-refused : (x ≡ 0 → ⊥) → load_row ok row p out fields ≡ ((x, after), fields)
-        load-refused refused = load-by_the_part ∙ rw (ne_eqb x 0 refused)
+-- ---- a load that is refused: by the page, and by its KEY part
 
-        pub load-done : x ≡ 0 → (stored : List ℕ) → stored ≡ fields_of p → load_row ok row p out fields ≡ ((x, after), stored)
-        load-done done stored is = load-by_the_part ∙ rw (done, is)
+module _ (t p out fields : List ℕ) (e : Refusal) (good : table_ok t ≡ true) where
+  some_refusal : number_of e ≡ 0 → ⊥
+  some_refusal z = not_zero e (sym z)
+
+  pub refused_unread : number_of e ≡ page_read_number p → load_answer t p out fields ≡ ((number_of e, out), fields)
+  refused_unread is = load_unread (table_ok t) (row_named t (format_in p) (key_part_lem p)) p out fields good (number_of e) is some_refusal
+
+  pub refused_unloaded : (after : List ℕ) → page_read_number p ≡ 0 → row_key_size ≤ length out
+      → part_answer (row_named t (format_in p) (key_part_lem p)) (algorithm_in p) (format_in p) (key_part_lem p) out ≡ (number_of e, after)
+      → load_answer t p out fields ≡ ((number_of e, after), fields)
+  refused_unloaded after readable room is =
+      load-by_the_part (table_ok t) (row_named t (format_in p) (key_part_lem p)) p out fields good readable (le-ltb (length out) row_key_size room) (number_of e) after is
+      ∙ rw (ne_eqb (number_of e) 0 some_refusal)

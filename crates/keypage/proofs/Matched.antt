@@ -20,7 +20,7 @@ use Rattle.keypage.specs.Page.{algorithm_in, format_in, key_length_lem, key_part
 use Rattle.keypage.specs.KeyPart.{wrapped_format, kek_type, identifier_at, identifier_size_lem, identifier_of, wrapped_of}
 use Rattle.keypage.specs.Load.{kek_row, row_named, part_tests, part_answer, load_answer}
 use Rattle.keypage.specs.Laws.{Given, KekMatched}
-use Rattle.keypage.proofs.LoadNumbers.{wrapped-rest, load-by_the_part}
+use Rattle.keypage.proofs.LoadNumbers.{wrapped_rest, load-by_the_part}
 use Rattle.keypage.proofs.Load.{part-row}
 
 -- where neither 6 nor 8 applies
@@ -46,7 +46,7 @@ module _ (t p out : List ℕ) (row : Row) (m : KekMatched t p out row) where
 
   part_unwraps : part_answer (row_named t (format_in p) (key_part_lem p)) (algorithm_in p) (format_in p) (key_part_lem p) out ≡ unwrapping p out row
   part_unwraps =
-      rw m.format (wrapped-rest (kek_row t (key_part_lem p)) (algorithm_in p) (key_part_lem p) out row m.matched kek_size m.given.key_fits)
+      rw m.format (wrapped_rest (kek_row t (key_part_lem p)) row (algorithm_in p) (key_part_lem p) out m.matched kek_size m.given.key_fits)
 
   module _ (fields : List ℕ) where
     load_unwraps : load_answer t p out fields ≡ (unwrapping p out row, kept (unwrapping p out row).0 (fields_of p) fields)

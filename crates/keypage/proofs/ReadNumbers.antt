@@ -1,48 +1,23 @@
 -- Reading a page by itself: its tests, each number by the tests that led there, and what 0 says of the page.
 -- Assumes nothing.
-use mathlib.Core.Path.{◌≡◌, refl, ◌∙◌}
-use mathlib.Core.Bool.{Bool, true, false, not}
-use mathlib.Core.List.{List, [], ◌∷◌}
-use Prim.Native.Nat.{ℕ, ◌+◌}
-use borrow.Author.Tests.{ne_eqb, not-false}
-use lib.Dec.{eqb, leb}
-use lib.ListN.{length}
-use Rattle.octets.specs.BigEndian.{number_at}
-use Rattle.octets.specs.Lent.{when}
-use Rattle.octets.specs.Tests.{every, zeros, part_of}
+use mathlib.Core.Path.{◌≡◌, refl}
+use mathlib.Core.Bool.{true, false, not}
+use mathlib.Core.List.{List}
+use Prim.Native.Nat.{ℕ}
+use borrow.Author.Tests.{not-false}
+use Rattle.std.specs.Prelude.{Some, None, IsSome}
 use Rattle.octets.proofs.Lent.{test_at, none_applies}
-use Rattle.octets.proofs.Tests.{or_left, every_at}
-use Rattle.keypage.specs.Layout.{code_at, page_code, page_length_at, before_length, zeros_at, zeros_count}
-use Rattle.keypage.specs.Page.{reserved_in, format_in, key_part_lem, list_at, list_in, page_list_ok, page_list_count, page_tests, page_ok, fields_of}
-use Rattle.keypage.specs.KeyPart.{part_broken}
+use Rattle.octets.proofs.Tests.{or_left, every_at, or_right, every-not}
+use Rattle.keypage.specs.Page.{format_in, key_part_lem, list_in, page_list_ok, page_tests, page_ok, fields_of, fields_ok}
+use Rattle.keypage.specs.KeyPart.{part_broken, by_format, part_refused}
 use Rattle.keypage.specs.Read.{broken, refused, long, page_read_tests, page_read_number, page_read_answer}
-use Rattle.keypage.proofs.KeyPart.{Passed}
+use Rattle.keypage.specs.declared.parts.Format.TheVariants.{Plain, Reference, Wrapped}
+use Rattle.keypage.proofs.KeyPart.{Passed, Known, known, as_plain, as-reference, as-wrapped}
 
--- the tests of a page's own layout, by what the code has read of it
-pub page_tested : (p : List ℕ) (code size bits list : ℕ) (reserved listed : Bool) → code ≡ number_at 2 p code_at → size ≡ number_at 2 p page_length_at → bits ≡ reserved_in p
-    → reserved ≡ zeros (part_of p zeros_at zeros_count) → list ≡ list_at p → listed ≡ page_list_ok (list_in p)
-    → every (eqb code page_code ∷ eqb (length p) (size + before_length) ∷ eqb bits 0 ∷ reserved ∷ leb list (length p) ∷ listed ∷ []) ≡ page_ok p
-unfolding page_ok
-page_tested p code size bits list reserved listed e1 e2 e3 e4 e5 e6 = rw (e1, e2, e3, e4, e5, e6)
-
--- ---- each number by the tests that led there
-
-module _ (p : List ℕ) where
-  pub page_two : broken p ≡ true → page_read_number p ≡ 2
-  unfolding page_read_number
-  page_two e = rw e
-
-  pub page_three : broken p ≡ false → refused p ≡ true → page_read_number p ≡ 3
-  unfolding page_read_number
-  page_three e f = rw (e, f)
-
-  pub page_four : broken p ≡ false → refused p ≡ false → long p ≡ true → page_read_number p ≡ 4
-  unfolding page_read_number
-  page_four e f g = rw (e, f, g)
-
-  pub page-zero : broken p ≡ false → refused p ≡ false → long p ≡ false → page_read_number p ≡ 0
-  unfolding page_read_number
-  page-zero e f g = rw (e, f, g)
+-- a page whose list is not accepted
+pub unlisted_two : (p : List ℕ) → page_list_ok (list_in p) ≡ false → page_read_number p ≡ 2
+unfolding page_ok page_read_number
+unlisted_two p e = rw (every-not (page_tests p) 5 e)
 
 -- ---- the number 0: no test applies
 
@@ -61,17 +36,18 @@ unfolding page_ok
 list_good p e =
     every_at (page_tests p) 5 (not-false (page_ok p) (or_left (not (page_ok p)) (part_broken (format_in p) (key_part_lem p)) (read_passed p e).whole))
 
--- the count that comes of testing such a page's list
-pub list_counted : (p l : List ℕ) (n : ℕ) → page_list_ok (list_in p) ≡ true → l ≡ list_in p → n ≡ when (page_list_ok l) (page_list_count l) 0 → n ≡ page_list_count (list_in p)
-list_counted p l n ok is e = e ∙ rw (is, ok)
+-- its format is known
+pub format_known : (p : List ℕ) → page_read_number p ≡ 0
+    → IsSome (by_format (format_in p) (Some Plain) (Some Reference) (Some Wrapped) None)
+format_known p e = go (known (format_in p) (key_part_lem p) (or_right (not (fields_ok p)) (part_refused (format_in p) (key_part_lem p)) (read_passed p e).permitted))
+  where
+    go : Known (format_in p) → IsSome (by_format (format_in p) (Some Plain) (Some Reference) (Some Wrapped) None)
+    go (as_plain f) = rw f refl
+    go (as-reference f) = rw f refl
+    go (as-wrapped f) = rw f refl
 
--- ---- the answer, by the number that the code has
+-- ---- the answer of such a page
 
-module _ (p fields : List ℕ) (n : ℕ) (is : n ≡ page_read_number p) where
-  pub page-refused : (n ≡ 0 → ⊥) → page_read_answer p fields ≡ (n, fields)
-  unfolding page_read_answer
-  page-refused refused = rw (← is, ne_eqb n 0 refused)
-
-  pub page-fields : n ≡ 0 → page_read_answer p fields ≡ (0, fields_of p)
-  unfolding page_read_answer
-  page-fields done = rw (← is, done)
+pub page-fields : (p fields : List ℕ) → page_read_number p ≡ 0 → page_read_answer p fields ≡ (0, fields_of p)
+unfolding page_read_answer
+page-fields p fields done = rw done

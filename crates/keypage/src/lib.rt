@@ -6,6 +6,5 @@ pub mod loading;
 pub mod parts;
 pub mod places;
 pub mod reading;
-mod reference;
 pub mod sizes;
 pub mod wrapped;

@@ -1,7 +1,7 @@
 // The KEY part of a page, by its format: its own tests. Each is lent the part alone.
-ghost use Rattle.std.specs.Prelude.{◌≡◌, not};
+ghost use Rattle.std.specs.Prelude.{◌≡◌};
 ghost use Rattle.octets.specs.Tests.{every};
-ghost use Rattle.keypage.specs.KeyPart.{wrapped_tests, part_broken, part_refused, part_long};
+ghost use Rattle.keypage.specs.KeyPart.{by_format, wrapped_tests, part_broken, part_refused, part_long};
 
 use crate::sizes::{
     IDENTIFIER_AT, IDENTIFIER_LENGTH_AT, KEY_SIZE, NAME_MAX, PLAIN_FORMAT, REFERENCE_FORMAT,
@@ -10,6 +10,27 @@ use crate::sizes::{
 use crate::wrapped::{kek_type, wrapped_at};
 use keytable::is_kek_type;
 use octets::big_endian::read16;
+
+// The formats that are known: a key as it stands, a reference to one, a wrapped one.
+#[derive(Clone, Copy)]
+pub(crate) enum Format {
+    Plain,
+    Reference,
+    Wrapped,
+}
+
+impl Format {
+    pub(crate) fn of(number: usize) -> Option<Format>
+        ensures { result ≡ by_format number (Some Format.Plain) (Some Format.Reference) (Some Format.Wrapped) None }
+    {
+        match number {
+            PLAIN_FORMAT => Some(Format::Plain),
+            REFERENCE_FORMAT => Some(Format::Reference),
+            WRAPPED_FORMAT => Some(Format::Wrapped),
+            _ => None,
+        }
+    }
+}
 
 // Whether the identifier of a 04h part is there and lies within it.
 fn identifier_ok(s: &[u8]) -> bool
@@ -20,49 +41,38 @@ fn identifier_ok(s: &[u8]) -> bool
 }
 
 // 2: the part breaks the layout of its format; one of another format is not looked at.
+#[tactic(auto, unfolding(crate::specs::KeyPart::part_broken))]
 pub fn part_broken(format: usize, s: &[u8]) -> bool
     ensures { result ≡ part_broken format s.now }
 {
-    if format == PLAIN_FORMAT {
-        return s.len() != KEY_SIZE;
+    match Format::of(format) {
+        Some(Format::Plain) => s.len() != KEY_SIZE,
+        Some(Format::Reference) => s.len() < REFERENCE_MIN,
+        Some(Format::Wrapped) => !identifier_ok(s),
+        None => false,
     }
-    if format == REFERENCE_FORMAT {
-        return s.len() < REFERENCE_MIN;
-    }
-    if format == WRAPPED_FORMAT {
-        return !identifier_ok(s);
-    }
-    false
 }
 
 // 3: a KEK type that is not permitted, or an unknown format.
+#[tactic(auto, unfolding(crate::specs::KeyPart::part_refused))]
 pub fn part_refused(format: usize, s: &[u8]) -> bool
     ensures { result ≡ part_refused format s.now }
 {
-    if format == PLAIN_FORMAT {
-        return false;
+    match Format::of(format) {
+        Some(Format::Plain | Format::Reference) => false,
+        Some(Format::Wrapped) => !is_kek_type(kek_type(s)),
+        None => true,
     }
-    if format == REFERENCE_FORMAT {
-        return false;
-    }
-    if format == WRAPPED_FORMAT {
-        return !is_kek_type(kek_type(s));
-    }
-    true
 }
 
 // 4: a reference or an identifier of more than 32 bytes.
+#[tactic(auto, unfolding(crate::specs::KeyPart::part_long))]
 pub fn part_long(format: usize, s: &[u8]) -> bool
     ensures { result ≡ part_long format s.now }
 {
-    if format == PLAIN_FORMAT {
-        return false;
+    match Format::of(format) {
+        Some(Format::Reference) => NAME_MAX < s.len(),
+        Some(Format::Wrapped) => NAME_MAX < read16(s, IDENTIFIER_LENGTH_AT),
+        Some(Format::Plain) | None => false,
     }
-    if format == REFERENCE_FORMAT {
-        return NAME_MAX < s.len();
-    }
-    if format == WRAPPED_FORMAT {
-        return NAME_MAX < read16(s, IDENTIFIER_LENGTH_AT);
-    }
-    false
 }

@@ -1,4 +1,6 @@
 // The numbers of document 01's key pages that have a name, for reading and for writing. The page: where its words and bytes stand, and what they may hold.
+ghost use Rattle.std.specs.Prelude.{◌<◌};
+
 use descriptors::list::STRICT_BY_DEFAULT;
 
 pub const CODE_AT: usize = 0;
@@ -9,26 +11,6 @@ pub const PAGE_LENGTH_AT: usize = 2;
 
 // PAGE LENGTH is the total less this.
 pub const BEFORE_LENGTH: usize = 4;
-
-pub const SCOPE_AT: usize = 4;
-
-pub const SCOPE_MAX: usize = 2;
-
-pub const CEEM_AT: usize = 5;
-
-pub const ENCRYPTION_AT: usize = 6;
-
-pub const ENCRYPTION_MAX: usize = 2;
-
-pub const DECRYPTION_AT: usize = 7;
-
-pub const DECRYPTION_MAX: usize = 3;
-
-pub const ALGORITHM_AT: usize = 8;
-
-pub const ALGORITHM_MAX: usize = 2;
-
-pub const FORMAT_AT: usize = 9;
 
 pub const ZERO_AT: usize = 10;
 
@@ -44,30 +26,101 @@ pub const PAGE_MAX: usize = 4096;
 // Whether a page's list is opened strict: it takes the default (document 02, No. 7).
 pub const PAGE_STRICT: bool = STRICT_BY_DEFAULT;
 
-// The bits of a byte: what one counts that begins at a bit, and how many values so many bits have.
-pub const FROM_BIT_0: usize = 1;
+// A field: some bits of a byte of the page. The lowest of them counts `weight` there, and they have `span` values.
+#[derive(Clone, Copy)]
+pub struct Bits {
+    pub in_byte: usize,
+    pub weight: usize,
+    pub span: usize,
+    ghost counts: { (0 < weight) × (0 < span) },
+}
 
-pub const FROM_BIT_1: usize = 2;
+pub const SCOPE: Bits = Bits {
+    in_byte: 4,
+    weight: 1 << 5,
+    span: 1 << 3,
+};
 
-pub const FROM_BIT_2: usize = 4;
+pub const ZERO_BITS: Bits = Bits {
+    in_byte: 4,
+    weight: 1 << 1,
+    span: 1 << 4,
+};
 
-pub const FROM_BIT_3: usize = 8;
+pub const LOCK: Bits = Bits {
+    in_byte: 4,
+    weight: 1,
+    span: 1 << 1,
+};
 
-pub const FROM_BIT_4: usize = 16;
+pub const CEEM: Bits = Bits {
+    in_byte: 5,
+    weight: 1 << 6,
+    span: 1 << 2,
+};
 
-pub const FROM_BIT_5: usize = 32;
+pub const RDMC: Bits = Bits {
+    in_byte: 5,
+    weight: 1 << 4,
+    span: 1 << 2,
+};
 
-pub const FROM_BIT_6: usize = 64;
+pub const SDK: Bits = Bits {
+    in_byte: 5,
+    weight: 1 << 3,
+    span: 1 << 1,
+};
 
-pub const ONE_BIT: usize = 2;
+pub const CKOD: Bits = Bits {
+    in_byte: 5,
+    weight: 1 << 2,
+    span: 1 << 1,
+};
 
-pub const TWO_BITS: usize = 4;
+pub const CKORP: Bits = Bits {
+    in_byte: 5,
+    weight: 1 << 1,
+    span: 1 << 1,
+};
 
-pub const THREE_BITS: usize = 8;
+pub const CKORL: Bits = Bits {
+    in_byte: 5,
+    weight: 1,
+    span: 1 << 1,
+};
 
-pub const FOUR_BITS: usize = 16;
+pub const ENCRYPTION: Bits = Bits {
+    in_byte: 6,
+    weight: 1,
+    span: 1 << 8,
+};
 
-pub const EIGHT_BITS: usize = 256;
+pub const DECRYPTION: Bits = Bits {
+    in_byte: 7,
+    weight: 1,
+    span: 1 << 8,
+};
+
+pub const ALGORITHM: Bits = Bits {
+    in_byte: 8,
+    weight: 1,
+    span: 1 << 8,
+};
+
+pub const FORMAT: Bits = Bits {
+    in_byte: 9,
+    weight: 1,
+    span: 1 << 8,
+};
+
+// The greatest values that are permitted.
+pub const SCOPE_MAX: usize = 2;
+
+pub const ENCRYPTION_MAX: usize = 2;
+
+pub const DECRYPTION_MAX: usize = 3;
+
+pub const ALGORITHM_MAX: usize = 2;
 
 // The formats of the KEY part.
 pub const PLAIN_FORMAT: usize = 0x00;
