@@ -1,22 +1,21 @@
 -- The answers of the calls: where a test fails and where none does, and what an enum's case tells of its input.
 -- Assumes nothing.
 use mathlib.Core.Path.{◌≡◌, refl, sym, ap, ◌∙◌}
-use mathlib.Core.Bool.{Bool, true, false, not}
+use mathlib.Core.Bool.{Bool, true, false, not, ◌&&◌, and-false, false≢true}
+use lib.Pointwise.{pointwise}
+use Rattle.std.specs.List.{list_all}
 use mathlib.Core.List.{List, [], ◌∷◌}
 use Prim.Native.Nat.{ℕ, ◌≤◌, ◌<◌}
 use native.Mathlib.Omega.{arith}
-use borrow.Author.Tests.{lt-ltb, le-ltb, ne_eqb}
-use lib.Dec.{eqb}
-use lib.ListN.{length, get_or, drop}
+use borrow.Author.Tests.{lt-ltb, le-ltb, le-leb}
+use lib.Dec.{eqb, leb}
+use lib.ListN.{length, get_or, take, drop}
 use Rattle.octets.specs.Lent.{lowest, kept}
-use Rattle.octets.specs.Tests.{every}
-use Rattle.descriptors.specs.Tested.{tested_says, list_ok, list_number, list_answer, list_check, count_of}
+use Rattle.octets.specs.Tests.{every, all, zeros}
+use Rattle.descriptors.specs.Tested.{list_ok, list_number, list_answer, count_of}
 use Rattle.descriptors.specs.Parse.{split}
-use Rattle.descriptors.specs.Steps.{split_step, step_answer, cursor_at_start, begun_of, advance_of, places_after, list_step}
-use Rattle.descriptors.specs.Labels.{label_max, list_of, label_shape, label_strict, label_ok, label_number, label_answer, label_check}
-use Rattle.descriptors.specs.declared.cursor.Advance.{Advance}
-use Rattle.descriptors.specs.declared.list.Tested.{Tested}
-use Rattle.descriptors.specs.declared.list.Tested.TheVariants.{Counted, Refused}
+use Rattle.descriptors.specs.Steps.{split_step, step_answer, cursor_at_start, begun_of}
+use Rattle.descriptors.specs.Labels.{label_max, list_of, holds, label_shape, label_strict, label_ok, label_number, label_answer, label_check}
 
 -- 0 and one value that comes with it
 zero-counted : (m k n : ℕ) → ◌≡◌ {A = ℕ × List ℕ} (m, kept m (k ∷ []) []) (0, n ∷ []) → (m ≡ 0) × (n ≡ k)
@@ -41,30 +40,9 @@ module _ (label strict : Bool) (s : List ℕ) where
   pub ok-counted : (n : ℕ) → list_answer label strict s ≡ (0, n ∷ []) → (list_ok label strict s ≡ true) × (n ≡ count_of label s)
   ok-counted n e = let (none, is) = zero-counted _ _ n e in (number_ok none, is)
 
-  -- what each case of the test's answer tells of the list
-  module _ (r : Tested) (e : tested_says r ≡ list_answer label strict s) where
-    pub counted_tells : (n : ℕ) → r ≡ Counted n → (list_ok label strict s ≡ true) × (n ≡ count_of label s)
-    counted_tells n is = ok-counted n (sym e ∙ ap tested_says is)
-
-    pub refused_tells : r ≡ Refused → list_ok label strict s ≡ false
-    refused_tells is = go (list_ok label strict s) (ap (λ (a : ℕ × List ℕ). a.0) (sym e ∙ ap tested_says is))
-      where
-        go : (ok : Bool) → lowest ((2, not ok) ∷ []) ≡ 2 → ok ≡ false
-        go true h = absurd (omega arith)
-        go false h = refl
-
-  -- so opening, and the call with a lent count
+  -- so opening
   pub begun-counted : (n : ℕ) → list_ok label strict s ≡ true → n ≡ count_of label s → record { number = 0; count = n; place = cursor_at_start label strict } ≡ begun_of s label strict
   begun-counted n ok is = rw (ok, is)
-
-  pub begun-refused : list_ok label strict s ≡ false → record { number = 2; count = 0; place = cursor_at_start label strict } ≡ begun_of s label strict
-  begun-refused ok = rw ok
-
-  pub check-counted : (before n : ℕ) → list_ok label strict s ≡ true → n ≡ count_of label s → list_check label strict s before ≡ (0, n)
-  check-counted before n ok is = rw (ok, is)
-
-  pub check-refused : (before : ℕ) → list_ok label strict s ≡ false → list_check label strict s before ≡ (2, before)
-  check-refused before ok = rw ok
 
 -- ---- a step
 
@@ -75,17 +53,42 @@ module _ (label strict : Bool) (s : List ℕ) (at : ℕ) where
   pub step_inside : at ≤ length s → step_answer label strict s at ≡ split_step label strict at (split (drop at s))
   step_inside h = rw (le-ltb (length s) at h)
 
--- the call with two lent places, by what the step from the cursor gives
-module _ (label strict : Bool) (s : List ℕ) (at : ℕ) (before : List ℕ) (r : Advance) (e : r ≡ advance_of s (record { at = at; label = label; strict = strict })) where
-  pub lent_unmoved : (r.number ≡ 0 → ⊥) → list_step label strict s at before ≡ (r.number, before)
-  lent_unmoved f = ap (λ (a : Advance). places_after a before) (sym e) ∙ rw (ne_eqb r.number 0 f)
-
-  pub lent-places : r.number ≡ 0 → list_step label strict s at before ≡ (0, r.from ∷ r.end ∷ [])
-  lent-places z = ap (λ (a : Advance). places_after a before) (sym e) ∙ rw z
-
 -- ---- a label
 
+-- the first two bytes are zeros, as they are compared
+starts_zero : (s : List ℕ) → (leb 2 (length s) && zeros (take 2 s)) ≡ pointwise eqb (take 2 s) (0 ∷ 0 ∷ [])
+unfolding all
+starts_zero [] = refl
+starts_zero (x ∷ []) = sym (and-false (eqb x 0))
+starts_zero (x ∷ y ∷ s) = rw (le-leb 2 (length (x ∷ y ∷ s)) (omega arith))
+
 module _ (s : List ℕ) where
+  pub unshaped : pointwise eqb (take 2 s) (0 ∷ 0 ∷ []) ≡ false → every (label_shape s) ≡ false
+  unshaped e = go (leb 2 (length s)) (zeros (take 2 s)) (starts_zero s ∙ e)
+    where
+      go : (a b : Bool) → (a && b) ≡ false
+          → every (a ∷ b ∷ holds 0x00 (list_of s) ∷ holds 0x01 (list_of s) ∷ holds 0x03 (list_of s) ∷ holds 0x04 (list_of s) ∷ []) ≡ false
+      go true true h = absurd (false≢true (sym h))
+      go true false h = refl
+      go false b h = refl
+
+  pub shaped : pointwise eqb (take 2 s) (0 ∷ 0 ∷ []) ≡ true → every (label_shape s) ≡ list_all (λ (t : ℕ). holds t (list_of s)) (0x00 ∷ 0x01 ∷ 0x03 ∷ 0x04 ∷ [])
+  shaped e = first (leb 2 (length s)) (zeros (take 2 s)) (starts_zero s ∙ e)
+    where
+      along : (a b c d : Bool) → every (true ∷ true ∷ a ∷ b ∷ c ∷ d ∷ []) ≡ (a && (b && (c && (d && true))))
+      along false b c d = refl
+      along true false c d = refl
+      along true true false d = refl
+      along true true true false = refl
+      along true true true true = refl
+
+      first : (a b : Bool) → (a && b) ≡ true
+          → every (a ∷ b ∷ holds 0x00 (list_of s) ∷ holds 0x01 (list_of s) ∷ holds 0x03 (list_of s) ∷ holds 0x04 (list_of s) ∷ [])
+          ≡ list_all (λ (t : ℕ). holds t (list_of s)) (0x00 ∷ 0x01 ∷ 0x03 ∷ 0x04 ∷ [])
+      first true true h = along (holds 0x00 (list_of s)) (holds 0x01 (list_of s)) (holds 0x03 (list_of s)) (holds 0x04 (list_of s))
+      first true false h = absurd (false≢true h)
+      first false b h = absurd (false≢true h)
+
   pub label-refused : label_ok s ≡ false → label_answer s ≡ (2, [])
   label-refused e = rw e
 
@@ -105,6 +108,14 @@ module _ (s : List ℕ) where
 
   pub label_count : (n : ℕ) → label_answer s ≡ (0, n ∷ []) → (label_number s ≡ 0) × (n ≡ count_of true (list_of s))
   label_count n e = zero-counted _ _ n e
+
+  -- a label whose list is refused is refused for the same
+  pub label_as_list : (n : ℕ) → every (label_shape s) ≡ true → (n, []) ≡ list_answer true label_strict (list_of s) → (n, []) ≡ label_answer s
+  label_as_list n shape e = go (list_ok true label_strict (list_of s)) refl
+    where
+      go : (ok : Bool) → list_ok true label_strict (list_of s) ≡ ok → (n, []) ≡ label_answer s
+      go true h = absurd (let z : ◌≡◌ {A = ℕ} 0 1 = ap (λ (a : ℕ × List ℕ). length a.1) (e ∙ list_accepted true label_strict (list_of s) _ h refl) in omega arith)
+      go false h = e ∙ list-refused true label_strict (list_of s) h ∙ sym (label-refused (label_list shape ∙ h))
 
   -- the call with a lent count, by the label's answer
   module _ (before : ℕ) where

@@ -102,24 +102,26 @@ quiet label strict at (d ∷ ds) left f = go (is_refused label strict (type_of d
     go false true ih f = ih f
     go false false ih f = absurd (f refl)
 
-step_quiet : (s : List ℕ) (c : Cursor) → ((advance_of s c).number ≡ 0 → ⊥) → (step_answer c.label c.strict s c.at).1 ≡ []
+step_quiet : (s : List ℕ) (c : Cursor) → ((advance_of s c).number ≡ 0 → ⊥) → (step_answer c.opening.label c.opening.strict s c.at).1 ≡ []
 unfolding split_step
 step_quiet s c f = go (ltb (length s) c.at) f
   where
     found : ℕ × List ℕ
-    found = split_step c.label c.strict c.at (split (drop c.at s))
+    found = split_step c.opening.label c.opening.strict c.at (split (drop c.at s))
 
     go : (b : Bool) → ((when b (2, []) found).0 ≡ 0 → ⊥) → (when b (2, []) found).1 ≡ []
     go true f = refl
-    go false f = quiet c.label c.strict c.at (split (drop c.at s)).0 (split (drop c.at s)).1 f
+    go false f = quiet c.opening.label c.opening.strict c.at (split (drop c.at s)).0 (split (drop c.at s)).1 f
 
 pub refused_stays : RefusedStays
-refused_stays s c f = ap (λ (l : List ℕ). record { at = get_or l 1 c.at; label = c.label; strict = c.strict }) (step_quiet s c f)
+refused_stays s c f = ap (λ (l : List ℕ). record { at = get_or l 1 c.at; opening = c.opening }) (step_quiet s c f)
 
 pub refused_quiet : RefusedShowsNothing
 refused_quiet s c f =
-    let none : c.at - c.at ≡ 0 = omega arith in
-    ap (λ (l : List ℕ). part_of s (get_or l 0 c.at) (get_or l 1 c.at - get_or l 0 c.at)) (step_quiet s c f) ∙ ap (part_of s c.at) none
+    let none : c.at - c.at ≡ 0 = omega arith in (
+      ap (λ (l : List ℕ). not (eqb (length l) 0)) (step_quiet s c f),
+      ap (λ (l : List ℕ). part_of s (get_or l 0 c.at) (get_or l 1 c.at - get_or l 0 c.at)) (step_quiet s c f) ∙ ap (part_of s c.at) none,
+    )
 
 -- ---- labels
 

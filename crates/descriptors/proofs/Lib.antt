@@ -1,5 +1,7 @@
 pub mod Sizes
 pub mod Split
+pub mod Walked
+pub mod Present
 pub mod Turns
 pub mod Answers
 pub mod Rising
@@ -8,6 +10,5 @@ pub mod Laws
 pub mod Shown
 pub mod StrictLaws
 pub mod Unique
-pub mod Held
 pub mod ReaderLaws
 pub mod Whole

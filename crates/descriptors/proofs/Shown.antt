@@ -34,4 +34,4 @@ ok-parse label strict s ok =
 
 pub shows-all : ShowsAll
 shows-all label strict s ok =
-    shown-each s (cursor_at_start label strict) (unreserved label (split s).0) (λ i h. (shows_in_order label strict s (split s).0 i ok (ok-parse label strict s ok) h).1)
+    shown-each s (cursor_at_start label strict) (unreserved label (split s).0) (λ i h. (shows_in_order label strict s (split s).0 i ok (ok-parse label strict s ok) h).2)

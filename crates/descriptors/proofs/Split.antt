@@ -30,6 +30,10 @@ pub split_turn : (s : List ℕ) → (size_of s ≡ 0 → ⊥) → split s ≡ be
 unfolding split
 split_turn = o.split_turn size_of size_within
 
+pub split-stop : (s : List ℕ) → size_of s ≡ 0 → split s ≡ ([], s)
+unfolding split
+split-stop = o.split-stop size_of size_within
+
 -- at a place of a list, where a descriptor of n bytes stands, or none, or the list ends
 module _ (s : List ℕ) (at : ℕ) where
   pub place_turn : (n : ℕ) → n ≡ size_of (drop at s) → (n ≡ 0 → ⊥) → split (drop at s) ≡ behind (part_of s at n) (split (drop (at + n) s))

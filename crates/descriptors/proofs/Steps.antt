@@ -13,9 +13,8 @@ use Rattle.octets.specs.Tests.{all, part_of}
 use Rattle.octets.proofs.Tests.{and_left, and_right}
 use Rattle.descriptors.specs.Descriptor.{type_of, is_reserved, is_refused, is_descriptor}
 use Rattle.descriptors.specs.Tested.{admits, unreserved}
-use Rattle.descriptors.specs.Steps.{first_shown, split_step, step_answer, advanced_by, advance_of, part_shown, cursor_after}
+use Rattle.descriptors.specs.Steps.{first_shown, split_step, step_answer, cursor_on, AdvanceAnswer, advanced_by, advance_of, part_shown, cursor_after}
 use Rattle.descriptors.specs.declared.cursor.Cursor.{Cursor}
-use Rattle.descriptors.specs.declared.cursor.Advance.{Advance}
 use Rattle.descriptors.proofs.Split.{split-flatten}
 
 -- from the place on, the list is these descriptors
@@ -113,11 +112,11 @@ module _ (label strict : Bool) (s : List ℕ) where
   -- ---- step after step
 
   abbrev cursor : ℕ → Cursor
-  cursor at = record { at = at; label = label; strict = strict }
+  cursor at = cursor_on label strict at
 
   -- the step after i steps from c shows d
   abbrev Shown : Cursor → ℕ → List ℕ → Type 0
-  Shown c i d = let a = advance_of s (cursor_after i s c) in (a.number ≡ 0) × (part_shown s a ≡ d)
+  Shown c i d = let a = advance_of s (cursor_after i s c) in (a.number ≡ 0) × (a.shows ≡ true) × (part_shown s a ≡ d)
 
   moved : (at : ℕ) (d : List ℕ) (us : List (List ℕ)) (w : Shows label strict s at d us) → (advance_of s (cursor at)).next ≡ cursor w.end
   moved at d us w = ap (λ (a : ℕ × List ℕ). (advanced_by (cursor at) a).next) w.answer
@@ -131,6 +130,7 @@ module _ (label strict : Bool) (s : List ℕ) where
       first (d ∷ us) e k =
           let w = shows at ds d us h e in (
             ap (λ (a : ℕ × List ℕ). a.0) w.answer,
+            ap (λ (a : ℕ × List ℕ). (advanced_by (cursor at) a).shows) w.answer,
             ap (λ (a : ℕ × List ℕ). part_shown s (advanced_by (cursor at) a)) w.answer ∙ w.part,
           )
   in_order (suc i) at ds h k = later (unreserved label ds) refl k (in_order i)
@@ -145,11 +145,11 @@ module _ (label strict : Bool) (s : List ℕ) where
           (subst (λ (l : List (List ℕ)). i < length l → Shown (cursor w.end) i (get_or l i [])) w.later (ih w.end w.rest w.stands) (omega arith))
 
   abbrev Still : Cursor → Type 0
-  Still c = advance_of s c ≡ record { number = 0; from = c.at; end = c.at; next = c }
+  Still c = advance_of s c ≡ record { number = 0; shows = false; from = c.at; end = c.at; next = c }
 
   still_after : (i : ℕ) (c : Cursor) → Still c → cursor_after i s c ≡ c
   still_after zero c h = refl
-  still_after (suc i) c h = ap (λ (a : Advance). cursor_after i s a.next) h ∙ still_after i c h
+  still_after (suc i) c h = ap (λ (a : AdvanceAnswer). cursor_after i s a.next) h ∙ still_after i c h
 
   pub then_still : (i at : ℕ) (ds : List (List ℕ)) → Stands label strict s at ds → length (unreserved label ds) ≤ i → Still (cursor_after i s (cursor at))
   then_still zero at ds h k = none_left (unreserved label ds) refl k

@@ -1,11 +1,12 @@
 -- The laws of specs/StrictLaws.antt.
 -- Assumes nothing.
 use mathlib.Core.Path.{◌≡◌, refl, sym, ap, ◌∙◌, subst}
-use mathlib.Core.Bool.{Bool, true, false, and-false, false≢true}
+use mathlib.Core.Bool.{Bool, true, false, not, and-false, false≢true}
 use mathlib.Core.List.{List, [], ◌∷◌, ◌++◌, flatten, append-nil}
 use Prim.Native.Nat.{ℕ, zero, suc, ◌+◌}
 use native.Mathlib.Omega.{arith}
 use borrow.Author.Tests.{not-true}
+use lib.Dec.{eqb}
 use lib.ListN.{length, get_or}
 use Rattle.octets.specs.Tests.{all}
 use Rattle.octets.proofs.Tests.{all_at, and_left}
@@ -13,7 +14,7 @@ use Rattle.descriptors.specs.Descriptor.{type_of, is_reserved, strict_by_default
 use Rattle.octets.specs.Split.{Split}
 use Rattle.descriptors.specs.Parse.{split}
 use Rattle.descriptors.specs.Tested.{admits, list_ok, unreserved, list_answer}
-use Rattle.descriptors.specs.Steps.{first_shown, step_answer}
+use Rattle.descriptors.specs.Steps.{first_shown, step_answer, cursor_on}
 use Rattle.descriptors.specs.StrictLaws.{reserved_at, NoneReserved, HasReserved, step_from, StrictExactly, StrictShowsSame, StrictLeavesNone, StrictShowsWhole, ReservedRefused, LabelAdmits}
 use Rattle.descriptors.specs.declared.cursor.Cursor.{Cursor}
 use Rattle.descriptors.proofs.Split.{split_joined, parse-split}
@@ -105,14 +106,14 @@ module _ (label : Bool) (s : List ℕ) where
   first_of at [] = (0, [])
   first_of at (d ∷ ds) = (0, at ∷ (at + length d) ∷ [])
 
-  abbrev step_on : ℕ → ℕ → List (List ℕ) → ℕ × ℕ × ℕ
-  step_on zero at ds = ((first_of at ds).0, get_or (first_of at ds).1 0 at, get_or (first_of at ds).1 1 at)
+  abbrev step_on : ℕ → ℕ → List (List ℕ) → ℕ × Bool × ℕ × ℕ
+  step_on zero at ds = ((first_of at ds).0, not (eqb (length (first_of at ds).1) 0), get_or (first_of at ds).1 0 at, get_or (first_of at ds).1 1 at)
   step_on (suc i) at [] = step_on i at []
   step_on (suc i) at (d ∷ ds) = step_on i (at + length d) ds
 
   module _ (strict : Bool) where
     abbrev cursor : ℕ → Cursor
-    cursor at = record { at = at; label = label; strict = strict }
+    cursor at = cursor_on label strict at
 
     shows_first : (at : ℕ) (ds : List (List ℕ)) → Stands label true s at ds → step_answer label strict s at ≡ first_of at ds
     unfolding first_shown all
@@ -126,7 +127,7 @@ module _ (label : Bool) (s : List ℕ) where
     then-from i at ds h = ap (λ (a : ℕ × List ℕ). step_from (cursor (get_or a.1 1 at)) s i) (shows_first at ds h)
 
     steps_on : (i at : ℕ) (ds : List (List ℕ)) → Stands label true s at ds → step_from (cursor at) s i ≡ step_on i at ds
-    steps_on zero at ds h = ap (λ (a : ℕ × List ℕ). (a.0, get_or a.1 0 at, get_or a.1 1 at)) (shows_first at ds h)
+    steps_on zero at ds h = ap (λ (a : ℕ × List ℕ). (a.0, not (eqb (length a.1) 0), get_or a.1 0 at, get_or a.1 1 at)) (shows_first at ds h)
     steps_on (suc i) at [] h = then-from i at [] h ∙ steps_on i at [] h
     steps_on (suc i) at (d ∷ ds) h = then-from i at (d ∷ ds) h ∙ steps_on i (at + length d) ds (stands_past label true s at d ds h)
 

@@ -1,26 +1,30 @@
--- What the test, the count, a step and the search for a type make of the bytes at a place of a list:
--- of one whole descriptor, of bytes that begin none, and of the end.
+-- What the test, the count and a step make of the bytes of a list: of one whole descriptor and what follows it, of bytes that begin none, and of the end.
 -- Assumes nothing.
 use mathlib.Core.Path.{◌≡◌, refl, sym, ap, ◌∙◌}
 use mathlib.Core.Bool.{Bool, true, false, ◌&&◌, not, and-false, false≢true}
 use mathlib.Core.List.{List, [], ◌∷◌}
-use Prim.Native.Nat.{ℕ, ◌+◌, ◌≤◌, ◌<◌}
-use native.Mathlib.Nat.{add-zero, zero-add}
+use Prim.Native.Nat.{ℕ, ◌+◌, ◌≤◌}
+use native.Mathlib.Nat.{zero-add}
 use native.Mathlib.Omega.{arith}
 use borrow.Author.Tests.{ne_eqb}
-use lib.ListN.{length, get_or, drop, length-drop}
-use lib.Seq.{get_or-take, get_or-drop}
+use lib.ListN.{length}
 use lib.Dec.{eqb, leb}
+use Rattle.refusals.specs.declared.Refusal.{Refusal}
 use Rattle.octets.specs.Lent.{when}
-use Rattle.octets.specs.Tests.{every, all, part_of}
-use Rattle.octets.proofs.Tests.{and_left, and_right, every-not, length_part}
-use Rattle.descriptors.specs.Descriptor.{type_of, is_reserved, is_refused, size_of}
+use Rattle.octets.specs.Tests.{every, all}
+use Rattle.octets.proofs.Tests.{and_left, and_right, every-not}
+use Rattle.descriptors.specs.Descriptor.{type_of, is_reserved, is_refused}
 use Rattle.octets.specs.Split.{Split, behind}
 use Rattle.descriptors.specs.Parse.{split}
 use Rattle.descriptors.specs.Tested.{rises_from, admits, split_tests, split_ok, unreserved}
 use Rattle.descriptors.specs.Steps.{first_shown, split_step}
-use Rattle.descriptors.specs.Labels.{present}
-use Rattle.descriptors.proofs.Split.{place_turn, place-stop, place_end, size_in}
+use Rattle.descriptors.specs.Descriptor.{is_descriptor}
+use Rattle.descriptors.specs.Tested.{count_of}
+use Rattle.descriptors.specs.Walked.{Begins, BeginsNone}
+use Rattle.descriptors.proofs.Sizes.{said_least, descriptor-parts, size-nothing}
+use Rattle.descriptors.proofs.Split.{split-stop, split_joined, split-whole}
+use mathlib.Core.List.{flatten}
+use lib.ListN.{length-append}
 
 -- the type is at least the least, and admitted
 abbrev pub type_admitted : Bool → Bool → ℕ → ℕ → Bool
@@ -51,91 +55,92 @@ counted-one label d ds = go (is_reserved label (type_of d))
     go true = sym (zero-add _)
     go false = omega arith
 
-module _ (s : List ℕ) (at : ℕ) where
-  -- ---- a whole descriptor of n bytes stands at the place
-  module _ (n kind : ℕ) (size : n ≡ size_of (drop at s)) (some : n ≡ 0 → ⊥) (is : kind ≡ get_or s at 0) where
-    type_here : type_of (part_of s at n) ≡ kind
-    type_here =
-        let (four, inside) = size_in s at n size some in
-        get_or-take n (drop at s) 0 0 (omega arith) ∙ get_or-drop at s 0 0 ∙ ap (λ (i : ℕ). get_or s i 0) (add-zero at) ∙ sym is
+-- ---- a whole descriptor d, and what follows it
 
-    length_here : length (part_of s at n) ≡ n
-    length_here = length_part s at n (size_in s at n size some).1
+module _ (label strict : Bool) {s d t : List ℕ} (begins : Begins s d t) where
+  pub test_turn : (least : ℕ) → type_admitted label strict least (type_of d) ≡ true → split_ok label strict least (split s) ≡ split_ok label strict (type_of d + 1) (split t)
+  test_turn least e = ap (split_ok label strict least) begins.parsed ∙ ok_turn label strict d (split t) least e
 
-    module _ (label strict : Bool) where
-      pub test_turn : (least : ℕ) → type_admitted label strict least kind ≡ true
-          → split_ok label strict least (split (drop at s)) ≡ split_ok label strict (kind + 1) (split (drop (at + n) s))
-      test_turn least e =
-          ap (split_ok label strict least) (place_turn s at n size some)
-          ∙ ok_turn label strict (part_of s at n) _ least (ap (type_admitted label strict least) type_here ∙ e)
-          ∙ ap (λ (t : ℕ). split_ok label strict (t + 1) (split (drop (at + n) s))) type_here
+  pub test-refused : (least : ℕ) → type_admitted label strict least (type_of d) ≡ false → split_ok label strict least (split s) ≡ false
+  test-refused least e = ap (split_ok label strict least) begins.parsed ∙ ok-refused label strict d (split t) least e
 
-      pub test-refused : (least : ℕ) → type_admitted label strict least kind ≡ false → split_ok label strict least (split (drop at s)) ≡ false
-      test-refused least e =
-          ap (split_ok label strict least) (place_turn s at n size some)
-          ∙ ok-refused label strict (part_of s at n) _ least (ap (type_admitted label strict least) type_here ∙ e)
+  pub step-one : (at : ℕ) → is_reserved label (type_of d) ≡ false → split_step label strict at (split s) ≡ (0, at ∷ (at + length d) ∷ [])
+  unfolding split_step first_shown
+  step-one at e = rw (begins.parsed, e, and-false strict)
 
-      pub step-one : is_reserved label kind ≡ false → split_step label strict at (split (drop at s)) ≡ (0, at ∷ (at + n) ∷ [])
-      unfolding split_step first_shown
-      step-one e = rw (place_turn s at n size some, type_here, e, and-false strict, length_here)
+  pub step-refused : (at : ℕ) → is_reserved label (type_of d) ≡ true → strict ≡ true → split_step label strict at (split s) ≡ (2, [])
+  unfolding split_step first_shown
+  step-refused at e f = rw (begins.parsed, e, f)
 
-      pub step-refused : is_reserved label kind ≡ true → strict ≡ true → split_step label strict at (split (drop at s)) ≡ (2, [])
-      unfolding split_step first_shown
-      step-refused e f = rw (place_turn s at n size some, type_here, e, f)
+  pub step_turn : (at : ℕ) → is_reserved label (type_of d) ≡ true → strict ≡ false → split_step label strict at (split s) ≡ split_step label strict (at + length d) (split t)
+  unfolding split_step first_shown
+  step_turn at e f = rw (begins.parsed, e, f) (ap (λ (b : Bool). first_shown label b (at + length d) (split t).0 (split t).1) f)
 
-      pub step_turn : is_reserved label kind ≡ true → strict ≡ false
-          → split_step label strict at (split (drop at s)) ≡ split_step label strict (at + n) (split (drop (at + n) s))
-      unfolding split_step first_shown
-      step_turn e f =
-          let left = split (drop (at + n) s) in
-          rw (place_turn s at n size some, type_here, e, f, length_here) (ap (λ (b : Bool). first_shown label b (at + n) left.0 left.1) f)
+pub count_turn : (label : Bool) {s d t : List ℕ} → Begins s d t
+    → length (unreserved label (split s).0) ≡ when (is_reserved label (type_of d)) 0 1 + length (unreserved label (split t).0)
+count_turn label {s} {d} {t} begins = ap (λ (p : Split). length (unreserved label p.0)) begins.parsed ∙ counted-one label d (split t).0
 
-    pub count_turn : (label : Bool)
-        → length (unreserved label (split (drop at s)).0) ≡ when (is_reserved label kind) 0 1 + length (unreserved label (split (drop (at + n) s)).0)
-    count_turn label =
-        ap (λ (p : Split). length (unreserved label p.0)) (place_turn s at n size some)
-        ∙ counted-one label (part_of s at n) _
-        ∙ ap (λ (t : ℕ). when (is_reserved label t) 0 1 + length (unreserved label (split (drop (at + n) s)).0)) type_here
+-- one that is not reserved adds 1, and a reserved one nothing
+pub counts_on : (label : Bool) {s d t : List ℕ} → Begins s d t → is_reserved label (type_of d) ≡ false
+    → length (unreserved label (split s).0) ≡ 1 + length (unreserved label (split t).0)
+counts_on label begins free = count_turn label begins ∙ rw free
 
-    pub present_here : (t : ℕ) → eqb kind t ≡ true → present t (split (drop at s)).0 ≡ true
-    unfolding present
-    present_here t e = rw (place_turn s at n size some, type_here, e)
+pub counts_over : (label : Bool) {s d t : List ℕ} → Begins s d t → is_reserved label (type_of d) ≡ true
+    → length (unreserved label (split s).0) ≡ length (unreserved label (split t).0)
+counts_over label begins kept = count_turn label begins ∙ rw kept (zero-add _)
 
-    pub present_turn : (t : ℕ) → eqb kind t ≡ false → present t (split (drop at s)).0 ≡ present t (split (drop (at + n) s)).0
-    unfolding present
-    present_turn t e = rw (place_turn s at n size some, type_here, e)
+-- ---- bytes that begin none
 
-  -- ---- bytes that begin none
-  module _ (inside : at < length s) (size : size_of (drop at s) ≡ 0) where
-    left-some : eqb (length (drop at s)) 0 ≡ false
-    left-some = ne_eqb (length (drop at s)) 0 (λ z. omega (arith, length-drop at s))
+module _ (label strict : Bool) {s t : List ℕ} {e : Refusal} (none : BeginsNone s e t) where
+  pub test-stop : (least : ℕ) → split_ok label strict least (split s) ≡ false
+  unfolding split_ok
+  test-stop least = rw none.stop (every-not (split_tests label strict least ([], s)) 0 (ne_eqb (length s) 0 none.some))
 
-    pub test-stop : (label strict : Bool) (least : ℕ) → split_ok label strict least (split (drop at s)) ≡ false
-    unfolding split_ok
-    test-stop label strict least = rw (place-stop s at size) (every-not (split_tests label strict least ([], drop at s)) 0 left-some)
+  pub step-stop : (at : ℕ) → split_step label strict at (split s) ≡ (2, [])
+  unfolding split_step first_shown
+  step-stop at = rw (none.stop, ne_eqb (length s) 0 none.some)
 
-    pub step-stop : (label strict : Bool) → split_step label strict at (split (drop at s)) ≡ (2, [])
-    unfolding split_step first_shown
-    step-stop label strict = rw (place-stop s at size, left-some)
+-- ---- the end
 
-    pub present-stop : (t : ℕ) → present t (split (drop at s)).0 ≡ false
-    unfolding present
-    present-stop t = rw (place-stop s at size)
+module _ (s : List ℕ) (end : length s ≡ 0) where
+  at_end : split s ≡ ([], s)
+  at_end = split-stop s (size-nothing s (omega arith))
 
-  -- ---- the end
-  module _ (past : length s ≤ at) where
-    pub test_end : (label strict : Bool) (least : ℕ) → split_ok label strict least (split (drop at s)) ≡ true
-    unfolding split_ok rises_from all
-    test_end label strict least = rw (place_end s at past)
+  pub test_end : (label strict : Bool) (least : ℕ) → split_ok label strict least (split s) ≡ true
+  unfolding split_ok rises_from all
+  test_end label strict least = rw (at_end, end)
 
-    pub count_end : (label : Bool) → length (unreserved label (split (drop at s)).0) ≡ 0
-    unfolding unreserved
-    count_end label = rw (place_end s at past)
+  pub count_end : (label : Bool) → length (unreserved label (split s).0) ≡ 0
+  unfolding unreserved
+  count_end label = rw at_end
 
-    pub step_end : (label strict : Bool) → split_step label strict at (split (drop at s)) ≡ (0, [])
-    unfolding split_step first_shown
-    step_end label strict = rw (place_end s at past)
+  pub step_end : (label strict : Bool) (at : ℕ) → split_step label strict at (split s) ≡ (0, [])
+  unfolding split_step first_shown
+  step_end label strict at = rw (at_end, end)
 
-    pub present_end : (t : ℕ) → present t (split (drop at s)).0 ≡ false
-    unfolding present
-    present_end t = rw (place_end s at past)
+-- ---- no more are counted than a list has bytes
+
+counted-within : (label : Bool) (ds : List (List ℕ)) → length (unreserved label ds) ≤ length ds
+unfolding unreserved
+counted-within label [] = omega arith
+counted-within label (d ∷ ds) = go (is_reserved label (type_of d)) (counted-within label ds)
+  where
+    go : (r : Bool) → length (unreserved label ds) ≤ length ds → length (when r (unreserved label ds) (d ∷ unreserved label ds)) ≤ length (d ∷ ds)
+    go true h = omega (arith, h)
+    go false h = omega (arith, h)
+
+many-within : (ds : List (List ℕ)) → all is_descriptor ds ≡ true → length ds ≤ length (flatten ds)
+unfolding all flatten
+many-within [] e = omega arith
+many-within (d ∷ ds) e =
+    let (zero_byte, long) = descriptor-parts d (and_left (is_descriptor d) (all is_descriptor ds) e) in
+    omega (arith, said_least d, many-within ds (and_right (is_descriptor d) (all is_descriptor ds) e), length-append d (flatten ds))
+
+pub count_within : (label : Bool) (s : List ℕ) → count_of label s ≤ length s
+count_within label s =
+    omega (
+      arith,
+      counted-within label (split s).0,
+      many-within (split s).0 (split-whole s),
+      simp length-append at (ap length (split_joined s)),
+    )

@@ -1,73 +1,73 @@
 -- For each input of each call one answer, and one state of what is lent: the laws of that name of specs/Laws.antt.
 -- Assumes nothing.
-use mathlib.Core.Path.{◌≡◌, refl}
-use mathlib.Core.Bool.{Bool}
+use mathlib.Core.Path.{◌≡◌, refl, sym, ap, ◌∙◌}
+use mathlib.Core.Bool.{Bool, false≢true}
 use mathlib.Core.List.{List, [], ◌∷◌}
 use Prim.Native.Nat.{ℕ}
-use lib.Dec.{eqb}
-use Rattle.octets.specs.Lent.{when}
-use Rattle.octets.proofs.Unique.{unique, unique-by}
-use Rattle.descriptors.specs.Tested.{tested_says, list_answer, list_check}
-use Rattle.descriptors.specs.Steps.{step_says, step_answer, begun_of, advance_of, list_step}
-use Rattle.descriptors.specs.Labels.{label_says, label_answer, label_check}
+use native.Mathlib.Omega.{arith}
+use lib.ListN.{length, get_or}
+use Rattle.std.specs.Prelude.{Option, Some, None, Result, Ok, Err}
+use Rattle.octets.proofs.Unique.{unique}
+use Rattle.refusals.specs.declared.Refusal.{Refusal}
+use Rattle.refusals.proofs.Laws.{number_unique, not_zero, says_same}
+use Rattle.descriptors.specs.Tested.{tested_says, list_check}
+use Rattle.descriptors.specs.Steps.{step_says, BegunAnswer, begun_says, AdvanceAnswer, advance_says, list_step}
+use Rattle.descriptors.specs.Labels.{label_check}
 use Rattle.descriptors.specs.Laws.{TestUnique, StepUnique, BeginUnique, AdvanceAtUnique, LabelUnique, ListCheckUnique, ListStepUnique, LabelCheckUnique}
-use Rattle.descriptors.specs.declared.cursor.Step.{Step}
-use Rattle.descriptors.specs.declared.cursor.Step.TheVariants.{One, Nothing, Broken}
-use Rattle.descriptors.specs.declared.label.Label.{Label}
-use Rattle.descriptors.specs.declared.label.Label.TheVariants as L
-use Rattle.descriptors.specs.declared.list.Tested.{Tested}
-use Rattle.descriptors.specs.declared.list.Tested.TheVariants.{Counted, Refused}
+use Rattle.descriptors.specs.declared.cursor.Cursor.{Cursor}
+use Rattle.descriptors.specs.declared.cursor.Span.{Span}
+use Rattle.descriptors.specs.declared.cursor.Begun.{Begun}
 
-abbrev tested : (ℕ × List ℕ) → Tested
-tested a = of a.1
-  where
-    of : List ℕ → Tested
-    of [] = Refused
-    of (n ∷ ns) = Counted n
+-- ---- what an answer says tells it
 
-tested_back : (a : Tested) → tested (tested_says a) ≡ a
-tested_back (Counted n) = refl
-tested_back Refused = refl
+-- a count, as the value that comes with 0
+counted_same : (x y : Result ℕ Refusal) → tested_says x ≡ tested_says y → x ≡ y
+counted_same = says_same (λ n. n ∷ []) (λ a b e. ap (λ (l : List ℕ). get_or l 0 0) e)
 
-abbrev step : (ℕ × List ℕ) → Step
-step a = of a.1
-  where
-    of : List ℕ → Step
-    of [] = when (eqb a.0 0) Nothing Broken
-    of (from ∷ []) = Broken
-    of (from ∷ end ∷ l) = One from end
+step_same : (x y : Result (Option Span) Refusal) → step_says x ≡ step_says y → x ≡ y
+step_same (Ok (Some p)) (Ok (Some q)) e = ap (λ (a : ℕ × List ℕ). Ok (Some (record { from = get_or a.1 0 0; end = get_or a.1 1 0 }))) e
+step_same (Ok (Some p)) (Ok None) e = absurd (let z : ◌≡◌ {A = ℕ} 2 0 = ap (λ (a : ℕ × List ℕ). length a.1) e in omega arith)
+step_same (Ok None) (Ok (Some q)) e = absurd (let z : ◌≡◌ {A = ℕ} 0 2 = ap (λ (a : ℕ × List ℕ). length a.1) e in omega arith)
+step_same (Ok None) (Ok None) e = refl
+step_same (Ok (Some p)) (Err f) e = absurd (not_zero f (ap (λ (a : ℕ × List ℕ). a.0) e))
+step_same (Ok None) (Err f) e = absurd (not_zero f (ap (λ (a : ℕ × List ℕ). a.0) e))
+step_same (Err d) (Ok (Some q)) e = absurd (not_zero d (sym (ap (λ (a : ℕ × List ℕ). a.0) e)))
+step_same (Err d) (Ok None) e = absurd (not_zero d (sym (ap (λ (a : ℕ × List ℕ). a.0) e)))
+step_same (Err d) (Err f) e = ap Err (number_unique d f (ap (λ (a : ℕ × List ℕ). a.0) e))
 
-step_back : (a : Step) → step (step_says a) ≡ a
-step_back (One from end) = refl
-step_back Nothing = refl
-step_back Broken = refl
+begun_same : (label strict : Bool) (x y : Result Begun Refusal) → begun_says label strict x ≡ begun_says label strict y → x ≡ y
+begun_same label strict (Ok b) (Ok d) e = ap (λ (a : BegunAnswer). Ok (record { count = a.count; place = a.place })) e
+begun_same label strict (Ok b) (Err f) e = absurd (not_zero f (ap (λ (a : BegunAnswer). a.number) e))
+begun_same label strict (Err d) (Ok b) e = absurd (not_zero d (sym (ap (λ (a : BegunAnswer). a.number) e)))
+begun_same label strict (Err d) (Err f) e = ap Err (number_unique d f (ap (λ (a : BegunAnswer). a.number) e))
 
-abbrev label : (ℕ × List ℕ) → Label
-label a = of a.1
-  where
-    of : List ℕ → Label
-    of [] = when (eqb a.0 2) L.Broken L.Long
-    of (n ∷ ns) = L.Counted n
+advance_same : (c : Cursor) (x y : Result (Option (Span × Cursor)) Refusal) → advance_says c x ≡ advance_says c y → x ≡ y
+advance_same c (Ok (Some p)) (Ok (Some q)) e = ap (λ (a : AdvanceAnswer). Ok (Some (record { from = a.from; end = a.end }, a.next))) e
+advance_same c (Ok (Some p)) (Ok None) e = absurd (false≢true (sym (ap (λ (a : AdvanceAnswer). a.shows) e)))
+advance_same c (Ok None) (Ok (Some q)) e = absurd (false≢true (ap (λ (a : AdvanceAnswer). a.shows) e))
+advance_same c (Ok None) (Ok None) e = refl
+advance_same c (Ok (Some p)) (Err f) e = absurd (not_zero f (ap (λ (a : AdvanceAnswer). a.number) e))
+advance_same c (Ok None) (Err f) e = absurd (not_zero f (ap (λ (a : AdvanceAnswer). a.number) e))
+advance_same c (Err d) (Ok (Some q)) e = absurd (not_zero d (sym (ap (λ (a : AdvanceAnswer). a.number) e)))
+advance_same c (Err d) (Ok None) e = absurd (not_zero d (sym (ap (λ (a : AdvanceAnswer). a.number) e)))
+advance_same c (Err d) (Err f) e = ap Err (number_unique d f (ap (λ (a : AdvanceAnswer). a.number) e))
 
-label_back : (a : Label) → label (label_says a) ≡ a
-label_back (L.Counted n) = refl
-label_back L.Broken = refl
-label_back L.Long = refl
+-- ---- so each call
 
 pub test_unique : (l t : Bool) (s : List ℕ) → TestUnique l t s
-test_unique l t s = unique-by tested_says tested tested_back (list_answer l t s)
+test_unique l t s x y p q = counted_same x y (p ∙ sym q)
 
 pub step_unique : (l t : Bool) (s : List ℕ) (at : ℕ) → StepUnique l t s at
-step_unique l t s at = unique-by step_says step step_back (step_answer l t s at)
+step_unique l t s at x y p q = step_same x y (p ∙ sym q)
 
 pub label_unique : LabelUnique
-label_unique s = unique-by label_says label label_back (label_answer s)
+label_unique s x y p q = counted_same x y (p ∙ sym q)
 
 pub begin_unique : (l t : Bool) (s : List ℕ) → BeginUnique l t s
-begin_unique l t s = unique (begun_of s l t)
+begin_unique l t s x y p q = begun_same l t x y (p ∙ sym q)
 
 pub advance_at_unique : AdvanceAtUnique
-advance_at_unique s c = unique (advance_of s c)
+advance_at_unique s c x y p q = advance_same c x y (p ∙ sym q)
 
 pub list_check_unique : (l t : Bool) (s : List ℕ) (before : ℕ) → ListCheckUnique l t s before
 list_check_unique l t s before = unique (list_check l t s before)

@@ -1,13 +1,13 @@
 -- Labels (document 01, "Descriptors and labels"): "A label is two zero bytes, then a list with 00h, 01h, 03h and 04h present."
 -- Assumes nothing.
-use Rattle.std.specs.Prelude.{ℕ, Bool, true, false, ◌&&◌, ◌||◌, not, List, [], ◌∷◌, length, take, drop, eqb, leb, ltb}
+use Rattle.std.specs.Prelude.{ℕ, Bool, true, false, ◌&&◌, ◌||◌, not, List, [], ◌∷◌, length, take, drop, eqb, leb, ltb, Result}
 use Rattle.octets.specs.Lent.{Tests, lowest, kept}
 use Rattle.octets.specs.Tests.{every, zeros}
 use Rattle.descriptors.specs.Descriptor.{type_of}
 use Rattle.descriptors.specs.Parse.{split}
 use Rattle.descriptors.specs.Tested.{list_ok, count_of}
-use Rattle.descriptors.specs.declared.label.Label.{Label}
-use Rattle.descriptors.specs.declared.label.Label.TheVariants.{Counted, Broken, Long}
+use Rattle.refusals.specs.Numbers.{outcome_says}
+use Rattle.refusals.specs.declared.Refusal.{Refusal}
 
 -- "Maxima": "Page or label at most 4,096 bytes"
 abbrev pub label_max : ℕ
@@ -52,10 +52,8 @@ label_tests s = (2, not (label_ok s)) ∷ (4, ltb label_max (length s)) ∷ []
 abbrev pub label_number : List ℕ → ℕ
 label_number s = lowest (label_tests s)
 
-abbrev pub label_says : Label → ℕ × List ℕ
-label_says (Counted n) = (0, n ∷ [])
-label_says Broken = (2, [])
-label_says Long = (4, [])
+abbrev pub label_says : Result ℕ Refusal → ℕ × List ℕ
+label_says = outcome_says (λ n. n ∷ [])
 
 abbrev pub label_answer : List ℕ → ℕ × List ℕ
 label_answer s = (label_number s, kept (label_number s) (count_of true (list_of s) ∷ []) [])

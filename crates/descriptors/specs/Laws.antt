@@ -9,7 +9,7 @@ use Rattle.octets.specs.Unique.{Unique, UniqueBy}
 use Rattle.descriptors.specs.Descriptor.{type_of, is_reserved, is_descriptor, size_of}
 use Rattle.descriptors.specs.Parse.{split, parse}
 use Rattle.descriptors.specs.Tested.{admits, list_ok, unreserved, count_of, list_tests, tested_says, list_answer, list_check}
-use Rattle.descriptors.specs.Steps.{left_tests, step_says, step_answer, cursor_at_start, begun_of, advance_of, part_shown, cursor_after, shown_by, list_step}
+use Rattle.descriptors.specs.Steps.{left_tests, step_says, step_answer, cursor_at_start, begun_of, begun_says, advance_of, advance_says, part_shown, cursor_after, shown_by, list_step}
 use Rattle.descriptors.specs.Labels.{label_max, list_of, holds, label_strict, label_tests, label_says, label_answer, label_check}
 use Rattle.descriptors.specs.declared.cursor.Cursor.{Cursor}
 
@@ -46,13 +46,13 @@ AcceptsExactly = (label strict : Bool) (s : List ℕ) (n : ℕ) → (list_answer
 abbrev pub ShowsInOrder : Type 0
 ShowsInOrder =
     (label strict : Bool) (s : List ℕ) (ds : List (List ℕ)) (i : ℕ) → list_ok label strict s ≡ true → parse s ≡ some ds → i < length (unreserved label ds)
-    → let a = advance_of s (cursor_after i s (cursor_at_start label strict)) in (a.number ≡ 0) × (part_shown s a ≡ get_or (unreserved label ds) i [])
+    → let a = advance_of s (cursor_after i s (cursor_at_start label strict)) in (a.number ≡ 0) × (a.shows ≡ true) × (part_shown s a ≡ get_or (unreserved label ds) i [])
 
 -- and every later one shows nothing, gives 0 and does not move
 abbrev pub ThenNothing : Type 0
 ThenNothing =
     (label strict : Bool) (s : List ℕ) (ds : List (List ℕ)) (i : ℕ) → list_ok label strict s ≡ true → parse s ≡ some ds → length (unreserved label ds) ≤ i
-    → let c = cursor_after i s (cursor_at_start label strict) in advance_of s c ≡ record { number = 0; from = c.at; end = c.at; next = c }
+    → let c = cursor_after i s (cursor_at_start label strict) in advance_of s c ≡ record { number = 0; shows = false; from = c.at; end = c.at; next = c }
 
 -- as many steps as an accepted list has unreserved descriptors show them all
 abbrev pub ShowsAll : Type 0
@@ -70,7 +70,7 @@ ShowsWhole = (label strict : Bool) (s : List ℕ) (at from end : ℕ) → step_a
 
 -- a step that is refused shows nothing and does not move
 abbrev pub RefusedShowsNothing : Type 0
-RefusedShowsNothing = (s : List ℕ) (c : Cursor) → ((advance_of s c).number ≡ 0 → ⊥) → part_shown s (advance_of s c) ≡ []
+RefusedShowsNothing = (s : List ℕ) (c : Cursor) → ((advance_of s c).number ≡ 0 → ⊥) → ((advance_of s c).shows ≡ false) × (part_shown s (advance_of s c) ≡ [])
 
 abbrev pub RefusedStays : Type 0
 RefusedStays = (s : List ℕ) (c : Cursor) → ((advance_of s c).number ≡ 0 → ⊥) → (advance_of s c).next ≡ c
@@ -107,7 +107,7 @@ module _ (label strict : Bool) (s : List ℕ) where
   StepUnique at = UniqueBy step_says (step_answer label strict s at)
 
   abbrev pub BeginUnique : Type 0
-  BeginUnique = Unique (begun_of s label strict)
+  BeginUnique = UniqueBy (begun_says label strict) (begun_of s label strict)
 
   abbrev pub ListCheckUnique : ℕ → Type 0
   ListCheckUnique before = Unique (list_check label strict s before)
@@ -116,7 +116,7 @@ module _ (label strict : Bool) (s : List ℕ) where
   ListStepUnique at before = Unique (list_step label strict s at before)
 
 abbrev pub AdvanceAtUnique : Type 0
-AdvanceAtUnique = (s : List ℕ) (c : Cursor) → Unique (advance_of s c)
+AdvanceAtUnique = (s : List ℕ) (c : Cursor) → UniqueBy (advance_says c) (advance_of s c)
 
 abbrev pub LabelUnique : Type 0
 LabelUnique = (s : List ℕ) → UniqueBy label_says (label_answer s)

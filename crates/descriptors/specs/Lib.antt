@@ -1,5 +1,6 @@
 pub mod Descriptor
 pub mod Parse
+pub mod Walked
 pub mod Tested
 pub mod Steps
 pub mod Labels

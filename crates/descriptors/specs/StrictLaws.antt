@@ -29,9 +29,9 @@ StrictExactly =
     (label : Bool) (s : List ℕ) (n : ℕ)
     → (list_answer label true s ≡ (0, n ∷ [])) ↔ ((list_answer label false s ≡ (0, n ∷ [])) × NoneReserved label (split s).0)
 
--- what step number i from a cursor gives: its number, and where the descriptor shown begins and ends
-abbrev pub step_from : Cursor → List ℕ → ℕ → ℕ × ℕ × ℕ
-step_from c s i = let a = advance_of s (cursor_after i s c) in (a.number, a.from, a.end)
+-- what step number i from a cursor gives: its number, whether a descriptor is shown, and where it begins and ends
+abbrev pub step_from : Cursor → List ℕ → ℕ → ℕ × Bool × ℕ × ℕ
+step_from c s i = let a = advance_of s (cursor_after i s c) in (a.number, a.shows, a.from, a.end)
 
 -- where strict gives 0, each step gives the same as the old way's
 abbrev pub StrictShowsSame : Type 0

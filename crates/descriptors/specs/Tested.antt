@@ -1,13 +1,13 @@
 -- The test of a whole list (document 01, "Descriptors and labels"), and its number and count.
 -- Assumes nothing.
-use Rattle.std.specs.Prelude.{ℕ, ◌+◌, Bool, true, ◌&&◌, not, List, [], ◌∷◌, length, eqb, leb}
+use Rattle.std.specs.Prelude.{ℕ, ◌+◌, Bool, true, ◌&&◌, not, List, [], ◌∷◌, length, eqb, leb, Result}
 use Rattle.octets.specs.Lent.{when, Tests, lowest, kept}
 use Rattle.octets.specs.Tests.{every, all}
 use Rattle.descriptors.specs.Descriptor.{type_of, is_reserved, is_refused}
 use Rattle.octets.specs.Split.{Split}
 use Rattle.descriptors.specs.Parse.{split}
-use Rattle.descriptors.specs.declared.list.Tested.{Tested}
-use Rattle.descriptors.specs.declared.list.Tested.TheVariants.{Counted, Refused}
+use Rattle.refusals.specs.Numbers.{outcome_says}
+use Rattle.refusals.specs.declared.Refusal.{Refusal}
 
 -- "Types strictly rise", from `least` on; reserved ones too
 unfoldable pub rises_from : ℕ → List (List ℕ) → Bool
@@ -44,9 +44,8 @@ list_tests label strict s = (2, not (list_ok label strict s)) ∷ []
 abbrev pub list_number : Bool → Bool → List ℕ → ℕ
 list_number label strict s = lowest (list_tests label strict s)
 
-abbrev pub tested_says : Tested → ℕ × List ℕ
-tested_says (Counted n) = (0, n ∷ [])
-tested_says Refused = (2, [])
+abbrev pub tested_says : Result ℕ Refusal → ℕ × List ℕ
+tested_says = outcome_says (λ n. n ∷ [])
 
 abbrev pub list_answer : Bool → Bool → List ℕ → ℕ × List ℕ
 list_answer label strict s = (list_number label strict s, kept (list_number label strict s) (count_of label s ∷ []) [])

@@ -1,149 +1,83 @@
-// The cursor: a place in a list, and what the opening chose. A step from it answers by an enum; opening and stepping answer by a struct.
-ghost use Rattle.std.specs.Prelude.{◌≡◌, [], ◌∷◌, ◌-◌};
+// The cursor: a place in a list, and how the list was opened.
+ghost use Rattle.std.specs.Prelude.{◌≡◌, ◌-◌};
 ghost use Rattle.octets.specs.Places.{placed, part_in};
 ghost use Rattle.descriptors.specs.Descriptor.{strict_by_default};
-ghost use Rattle.descriptors.specs.Steps.{step_says, step_answer, begun_of, advanced_by, advance_of};
+ghost use Rattle.descriptors.specs.Steps.{step_says, step_answer, begun_says, begun_of, advance_says, advance_of};
 
-use crate::descriptor::{reserved, size_at};
-use crate::list::{STRICT_BY_DEFAULT, Tested, check_list_as};
-use octets::big_endian::read8;
+use crate::descriptor::{Descriptors, type_of};
+use crate::list::{Opening, check_list_as};
 use octets::strings::part_in;
+use refusals::Refusal;
 
 #[derive(Clone, Copy)]
 pub struct Cursor {
     pub at: usize,
-    pub label: bool,
-    pub strict: bool,
+    pub opening: Opening,
 }
 
-// What a step finds: the places where the descriptor shown begins and ends; nothing left; or Broken, which is number 2.
-#[derive(Drop)]
-pub enum Step {
-    One { from: usize, end: usize },
-    Nothing,
-    Broken,
+// Where a descriptor begins and ends.
+#[derive(Clone, Copy)]
+pub struct Span {
+    pub from: usize,
+    pub end: usize,
 }
 
-// What opening gives: the number, the count of the descriptors to come, and the cursor at the list's start.
-#[derive(Drop)]
+// What opening gives: the count of the descriptors to come, and the cursor at the list's start.
+#[derive(Clone, Copy)]
 pub struct Begun {
-    pub number: u8,
     pub count: usize,
     pub place: Cursor,
 }
 
-// What a step gives: the number, where the descriptor shown begins and ends, and the cursor after it.
-#[derive(Drop)]
-pub struct Advance {
-    pub number: u8,
-    pub from: usize,
-    pub end: usize,
-    pub next: Cursor,
+// The first descriptor at or after the cursor that is not reserved.
+pub fn step_at(list: &[u8], c: Cursor) -> Result<Option<Span>, Refusal>
+    ensures { step_says result ≡ step_answer c.opening.label c.opening.strict list.now c.at }
+{
+    let left = list.get(c.at..).ok_or(Refusal::Layout)?;
+    let mut from = c.at;
+    for d in (Descriptors { left }) {
+        let d = d?;
+        let end = from + d.len();
+        if !c.opening.reserves(type_of(d)) {
+            return Ok(Some(Span { from, end }));
+        }
+        if c.opening.strict {
+            return Err(Refusal::Layout);
+        }
+        from = end;
+    }
+    Ok(None)
 }
 
-// The first descriptor at or after the place that is not reserved.
-pub fn step_at(list: &[u8], label: bool, strict: bool, place: usize) -> Step
-    ensures { step_says result ≡ step_answer label strict list.now place }
+// Opens a list.
+pub fn begin_as(list: &[u8], opening: Opening) -> Result<Begun, Refusal>
+    ensures { begun_says opening.label opening.strict result ≡ begun_of list.now opening.label opening.strict }
 {
-    if list.len() < place {
-        return Step::Broken;
-    }
-    let mut at = place;
-    while at < list.len() {
-        let n = size_at(list, at);
-        let kind = read8(list, at);
-        if n == 0 {
-            return Step::Broken;
-        }
-        if !reserved(label, kind) {
-            return Step::One {
-                from: at,
-                end: at + n,
-            };
-        }
-        if strict {
-            return Step::Broken;
-        }
-        at += n;
-    }
-    Step::Nothing
-}
-
-// Opens a list: page or label, strict or not.
-pub fn begin_as(list: &[u8], label: bool, strict: bool) -> Begun
-    ensures { result ≡ begun_of list.now label strict }
-{
-    let place = Cursor {
-        at: 0,
-        label,
-        strict,
-    };
-    match check_list_as(list, label, strict) {
-        Tested::Counted(n) => Begun {
-            number: 0,
-            count: n,
-            place,
-        },
-        Tested::Refused => Begun {
-            number: 2,
-            count: 0,
-            place,
-        },
-    }
+    let count = check_list_as(list, opening)?;
+    Ok(Begun {
+        count,
+        place: Cursor { at: 0, opening },
+    })
 }
 
 // The same without a choice.
-pub fn begin(list: &[u8], label: bool) -> Begun
-    ensures { result ≡ begun_of list.now label strict_by_default }
+pub fn begin(list: &[u8], label: bool) -> Result<Begun, Refusal>
+    ensures { begun_says label strict_by_default result ≡ begun_of list.now label strict_by_default }
 {
-    begin_as(list, label, STRICT_BY_DEFAULT)
+    begin_as(list, Opening::by_default(label))
 }
 
-// A step that shows the descriptor between two places, and moves past it.
-fn shows(c: Cursor, from: usize, end: usize) -> Advance
-    ensures { result ≡ advanced_by c (0, from ∷ end ∷ []) }
+// One step from the cursor: the descriptor shown, and the cursor past it.
+pub fn advance_at(list: &[u8], c: Cursor) -> Result<Option<(Span, Cursor)>, Refusal>
+    ensures { advance_says c result ≡ advance_of list.now c }
 {
-    Advance {
-        number: 0,
-        from,
-        end,
-        next: Cursor {
-            at: end,
-            label: c.label,
-            strict: c.strict,
-        },
-    }
-}
-
-// A step that shows nothing, and does not move.
-fn stays(c: Cursor, number: u8) -> Advance
-    ensures { result ≡ advanced_by c (number, []) }
-{
-    Advance {
-        number,
-        from: c.at,
-        end: c.at,
-        next: c,
-    }
-}
-
-// One step from the cursor.
-pub fn advance_at(list: &[u8], c: Cursor) -> Advance
-    ensures { result ≡ advance_of list.now c }
-{
-    match step_at(list, c.label, c.strict, c.at) {
-        Step::One { from, end } => shows(c, from, end),
-        Step::Nothing => stays(c, 0),
-        Step::Broken => stays(c, 2),
-    }
+    let step = step_at(list, c)?;
+    Ok(step.map(|shown| (shown, Cursor { at: shown.end, ..c })))
 }
 
 // The bytes of a list from one place to another, as the part of the list that they are.
 pub fn part_at<'a>(list: &'a [u8], from: usize, end: usize) -> &'a [u8]
     ensures { placed result ≡ part_in (placed list.entry) from (end - from) }
 {
-    if end < from {
-        return part_in(list, from, 0);
-    }
-    part_in(list, from, end - from)
+    part_in(list, from, end.saturating_sub(from))
 }

@@ -1,56 +1,55 @@
-// The descriptor at a place of a list, and which types are reserved.
-ghost use Rattle.std.specs.Prelude.{◌≡◌, drop};
-ghost use Rattle.descriptors.specs.Descriptor.{size_of, is_reserved};
+// The descriptors that a list begins with, one after the other.
+ghost use Rattle.std.specs.Prelude.{◌≡◌, ◌<◌};
+ghost use Rattle.descriptors.specs.Descriptor.{type_of};
+ghost use Rattle.descriptors.specs.Walked.{GivesNext, bytes_left};
 
 use octets::big_endian::{read8, read16};
-use octets::strings::part;
+use refusals::Refusal;
 
-// Type, zero byte and length: where the last two stand, and the size of all.
+// Type, zero byte and length: where each stands, and the size of all.
+const TYPE_AT: usize = 0;
+
 const ZERO_AT: usize = 1;
 
 const LENGTH_AT: usize = 2;
 
 const HEAD_SIZE: usize = 4;
 
-// The reserved types of a page and of a label: from these on, and to this.
-const PAGE_RESERVED: usize = 0x04;
-
-const LABEL_RESERVED: usize = 0x05;
-
-const RESERVED_TO: usize = 0xBF;
-
-// What is left of a string from a place on.
-pub(crate) fn rest(s: &[u8], at: usize) -> &[u8]
-    ensures { result.now ≡ drop at s.now }
+// The type of a descriptor.
+pub(crate) fn type_of(d: &[u8]) -> usize
+    ensures { (result ≡ type_of d.now) × (result < 256) }
 {
-    part(s, at, s.len())
+    read8(d, TYPE_AT)
 }
 
-// The bytes of the whole descriptor that a list begins with, or 0.
-#[tactic(auto, unfolding(crate::specs::Descriptor::size_of, crate::specs::Descriptor::size_said))]
-pub(crate) fn size_of(s: &[u8]) -> usize
-    ensures { result ≡ size_of s.now }
-{
-    let n = HEAD_SIZE + read16(s, LENGTH_AT);
-    if (read8(s, ZERO_AT) == 0) & (n <= s.len()) {
-        return n;
+// The whole descriptors that bytes begin with, one after the other; and then a refusal, where bytes are left that begin none.
+#[derive(Drop)]
+pub(crate) struct Descriptors<'a> {
+    pub(crate) left: &'a [u8],
+}
+
+impl<'a> Iterator for Descriptors<'a> {
+    type Item = Result<&'a [u8], Refusal>;
+
+    ghost next_gives = { GivesNext };
+
+    ghost remaining = { bytes_left };
+
+    fn next(&mut self) -> Option<Result<&'a [u8], Refusal>> {
+        if self.left.is_empty() {
+            return None;
+        }
+        let n = HEAD_SIZE + read16(self.left, LENGTH_AT);
+        let zero = read8(self.left, ZERO_AT) == 0;
+        match self.left.split_at_checked(n) {
+            Some((descriptor, left)) if zero => {
+                self.left = left;
+                Some(Ok(descriptor))
+            }
+            _ => {
+                self.left = &[];
+                Some(Err(Refusal::Layout))
+            }
+        }
     }
-    0
-}
-
-// The bytes of the whole descriptor at a place, or 0 where there is none.
-pub(crate) fn size_at(list: &[u8], at: usize) -> usize
-    ensures { result ≡ size_of (drop at list.now) }
-{
-    size_of(rest(list, at))
-}
-
-// Whether a type is reserved, on a label or on a page.
-pub(crate) fn reserved(label: bool, kind: usize) -> bool
-    ensures { result ≡ is_reserved label kind }
-{
-    if label {
-        return (LABEL_RESERVED <= kind) & (kind <= RESERVED_TO);
-    }
-    (PAGE_RESERVED <= kind) & (kind <= RESERVED_TO)
 }

@@ -1,72 +1,46 @@
 // Labels: two zero bytes, then a list in which four types are present.
 ghost use Rattle.std.specs.Prelude.{◌≡◌};
-ghost use Rattle.octets.specs.Tests.{every};
-ghost use Rattle.descriptors.specs.Labels.{holds, label_shape, label_says, label_answer};
+ghost use Rattle.descriptors.specs.Labels.{holds, label_says, label_answer};
 
-use crate::descriptor::{rest, size_at};
-use crate::list::{Tested, check_list_as};
-use octets::big_endian::read8;
-use octets::strings::{all_zero, part};
+use crate::descriptor::{Descriptors, type_of};
+use crate::list::{Opening, check_list_as};
+use refusals::Refusal;
 
 const LABEL_MAX: usize = 4096;
 
 // The zero bytes before the list.
-const ZERO_SIZE: usize = 2;
+const ZEROS: [u8; 2] = [0; 2];
+
+// The types that a label's list has.
+const PRESENT: [usize; 4] = [0x00, 0x01, 0x03, 0x04];
 
 // Whether a label's list is opened strict: it is not, since managers in the field put reserved types into labels (document 02, No. 7).
 pub const LABEL_STRICT: bool = false;
-
-// What testing a label finds: the number of its descriptors that are not reserved; Broken, which is number 2; or Long, which is number 4.
-#[derive(Drop)]
-pub enum Label {
-    Counted(usize),
-    Broken,
-    Long,
-}
 
 // Whether one of the whole descriptors that a list begins with has this type.
 fn has(list: &[u8], kind: usize) -> bool
     ensures { result ≡ holds kind list.now }
 {
-    let mut at = 0;
-    while at < list.len() {
-        let n = size_at(list, at);
-        if n == 0 {
-            return false;
-        }
-        if read8(list, at) == kind {
-            return true;
-        }
-        at += n;
-    }
-    false
+    Descriptors { left: list }.any(|d| matches!(d, Ok(d) if type_of(d) == kind))
 }
 
-// Whether a label begins with two zero bytes, and its list has the four types.
-fn shaped(label: &[u8]) -> bool
-    ensures { result ≡ every (label_shape label.now) }
-{
-    let list = rest(label, ZERO_SIZE);
-    (ZERO_SIZE <= label.len())
-        & all_zero(part(label, 0, ZERO_SIZE))
-        & has(list, 0x00)
-        & has(list, 0x01)
-        & has(list, 0x03)
-        & has(list, 0x04)
-}
-
-// Tests a label.
-pub fn check_label(label: &[u8]) -> Label
+// Tests a label, and counts its descriptors that are not reserved.
+pub fn check_label(label: &[u8]) -> Result<usize, Refusal>
     ensures { label_says result ≡ label_answer label.now }
 {
-    if !shaped(label) {
-        return Label::Broken;
+    let list = label.strip_prefix(&ZEROS).ok_or(Refusal::Layout)?;
+    if !PRESENT.iter().all(|kind| has(list, *kind)) {
+        return Err(Refusal::Layout);
     }
-    let Tested::Counted(n) = check_list_as(rest(label, ZERO_SIZE), true, LABEL_STRICT) else {
-        return Label::Broken;
-    };
+    let count = check_list_as(
+        list,
+        Opening {
+            label: true,
+            strict: LABEL_STRICT,
+        },
+    )?;
     if label.len() > LABEL_MAX {
-        return Label::Long;
+        return Err(Refusal::PastMaximum);
     }
-    Label::Counted(n)
+    Ok(count)
 }

@@ -1,65 +1,81 @@
-// The test of a whole list, and the count of its descriptors that are not reserved.
-ghost use Rattle.std.specs.Prelude.{◌≡◌, ◌&&◌, not, ◌≤◌, leb};
-ghost use Rattle.octets.specs.Lent.{when};
+// How a list is opened; the test of a whole list, and the count of its descriptors that are not reserved.
+ghost use Rattle.std.specs.Prelude.{◌≡◌, ◌&&◌, not, leb};
 ghost use Rattle.descriptors.specs.Descriptor.{is_reserved, is_refused, strict_by_default};
 ghost use Rattle.descriptors.specs.Tested.{tested_says, list_answer};
 
-use crate::descriptor::{reserved, size_at};
-use octets::big_endian::read8;
+use crate::descriptor::{Descriptors, type_of};
+use refusals::Refusal;
+
+// The reserved types of a page and of a label: from these on, and to this.
+const PAGE_RESERVED: usize = 0x04;
+
+const LABEL_RESERVED: usize = 0x05;
+
+const RESERVED_TO: usize = 0xBF;
 
 // A list opened without a choice is opened strict: document 02, No. 7.
 pub const STRICT_BY_DEFAULT: bool = true;
 
-// What testing a list finds: the number of its descriptors that are not reserved; or Refused, which is number 2.
-#[derive(Drop)]
-pub enum Tested {
-    Counted(usize),
-    Refused,
+// How a list is opened: as a label's or a page's, and whether a reserved type is refused.
+#[derive(Clone, Copy)]
+pub struct Opening {
+    pub label: bool,
+    pub strict: bool,
 }
 
-// Whether a descriptor's type is at least the least, and admitted.
-fn admitted(label: bool, strict: bool, least: usize, kind: usize) -> bool
-    ensures { result ≡ (leb least kind && not (is_refused label strict kind)) }
-{
-    (least <= kind) & !(strict & reserved(label, kind))
-}
-
-// What a descriptor of this type adds to the count.
-fn counted(label: bool, kind: usize) -> usize
-    ensures { (result ≡ when (is_reserved label kind) 0 1) × (result ≤ 1) }
-{
-    if reserved(label, kind) {
-        return 0;
+impl Opening {
+    // The opening of a list without a choice.
+    pub(crate) fn by_default(label: bool) -> Opening
+        ensures { result ≡ record { label = label; strict = strict_by_default } }
+    {
+        Opening {
+            label,
+            strict: STRICT_BY_DEFAULT,
+        }
     }
-    1
+
+    // Whether a type is reserved.
+    pub(crate) fn reserves(self, kind: usize) -> bool
+        ensures { result ≡ is_reserved self.label kind }
+    {
+        let first = if self.label {
+            LABEL_RESERVED
+        } else {
+            PAGE_RESERVED
+        };
+        (first <= kind) & (kind <= RESERVED_TO)
+    }
+
+    // Whether a descriptor's type is at least the least, and admitted.
+    fn admits(self, least: usize, kind: usize) -> bool
+        ensures { result ≡ (leb least kind && not (is_refused self.label self.strict kind)) }
+    {
+        (least <= kind) & !(self.strict & self.reserves(kind))
+    }
 }
 
-// Tests a whole list: page or label, strict or not.
-pub fn check_list_as(list: &[u8], label: bool, strict: bool) -> Tested
-    ensures { tested_says result ≡ list_answer label strict list.now }
+// Tests a whole list, and counts its descriptors that are not reserved.
+pub fn check_list_as(list: &[u8], opening: Opening) -> Result<usize, Refusal>
+    ensures { tested_says result ≡ list_answer opening.label opening.strict list.now }
 {
-    let mut at = 0;
     let mut least = 0;
     let mut count = 0;
-    while at < list.len() {
-        let n = size_at(list, at);
-        let kind = read8(list, at);
-        if n == 0 {
-            return Tested::Refused;
+    for d in (Descriptors { left: list }) {
+        let kind = type_of(d?);
+        if !opening.admits(least, kind) {
+            return Err(Refusal::Layout);
         }
-        if !admitted(label, strict, least, kind) {
-            return Tested::Refused;
+        if !opening.reserves(kind) {
+            count += 1;
         }
-        count += counted(label, kind);
         least = kind + 1;
-        at += n;
     }
-    Tested::Counted(count)
+    Ok(count)
 }
 
 // The same without a choice.
-pub fn check_list(list: &[u8], label: bool) -> Tested
+pub fn check_list(list: &[u8], label: bool) -> Result<usize, Refusal>
     ensures { tested_says result ≡ list_answer label strict_by_default list.now }
 {
-    check_list_as(list, label, STRICT_BY_DEFAULT)
+    check_list_as(list, Opening::by_default(label))
 }

@@ -1,63 +1,54 @@
 // The reader: the caller's list, and a place in it. Its functions are thin; the cursor's do the work.
 ghost use Rattle.std.specs.Prelude.{◌≡◌};
 ghost use Rattle.descriptors.specs.Descriptor.{strict_by_default};
-ghost use Rattle.descriptors.specs.Readers.{opened_of, shown_says, next_of};
+ghost use Rattle.descriptors.specs.Readers.{opened_says, opened_of, shown_says, next_of};
 
 use crate::cursor::{Cursor, advance_at, begin_as, part_at};
-use crate::list::STRICT_BY_DEFAULT;
+use crate::list::Opening;
+use refusals::Refusal;
 
-#[derive(Drop)]
+#[derive(Clone, Copy)]
 pub struct Reader<'a> {
     pub list: &'a [u8],
     pub place: Cursor,
 }
 
-// What opening answers: 0 and the count of the descriptors to come, or 2; and the reader, at the list's start.
-#[derive(Drop)]
+// What opening gives: the count of the descriptors to come, and the reader at the list's start.
+#[derive(Clone, Copy)]
 pub struct Opened<'a> {
-    pub number: u8,
     pub count: usize,
     pub reader: Reader<'a>,
 }
 
-// What a step answers: the number, and the descriptor, as the part of the list that it is.
-#[derive(Drop)]
-pub struct Shown<'a> {
-    pub number: u8,
-    pub part: &'a [u8],
-}
-
-// Opens a list: page or label, strict or not.
-pub fn open_as<'a>(list: &'a [u8], label: bool, strict: bool) -> Opened<'a>
-    ensures { result ≡ opened_of list.entry label strict }
+// Opens a list.
+pub fn open_as<'a>(list: &'a [u8], opening: Opening) -> Result<Opened<'a>, Refusal>
+    ensures { opened_says list.entry opening.label opening.strict result ≡ opened_of list.entry opening.label opening.strict }
 {
-    let b = begin_as(list, label, strict);
-    Opened {
-        number: b.number,
-        count: b.count,
+    let begun = begin_as(list, opening)?;
+    Ok(Opened {
+        count: begun.count,
         reader: Reader {
             list,
-            place: b.place,
+            place: begun.place,
         },
-    }
+    })
 }
 
 // The same without a choice.
-pub fn open<'a>(list: &'a [u8], label: bool) -> Opened<'a>
-    ensures { result ≡ opened_of list.entry label strict_by_default }
+pub fn open<'a>(list: &'a [u8], label: bool) -> Result<Opened<'a>, Refusal>
+    ensures { opened_says list.entry label strict_by_default result ≡ opened_of list.entry label strict_by_default }
 {
-    open_as(list, label, STRICT_BY_DEFAULT)
+    open_as(list, Opening::by_default(label))
 }
 
-// A step where the caller holds the reader: the place moves, and the descriptor is shown.
-pub fn next<'s, 'a>(r: &'s mut Reader<'a>) -> Shown<'a>
-    ensures { next_of r.old ≡ (shown_says result, r.new) }
+// A step where the caller holds the reader: the descriptor is shown, and the place moves past it.
+// Where none is left (`Ok(None)`), and where the step is refused, the place stays as it was.
+pub fn next<'s, 'a>(r: &'s mut Reader<'a>) -> Result<Option<&'a [u8]>, Refusal>
+    ensures { next_of r.old ≡ (shown_says r.old result, r.new) }
 {
-    let list = r.list;
-    let a = advance_at(list, r.place);
-    r.place = a.next;
-    Shown {
-        number: a.number,
-        part: part_at(list, a.from, a.end),
-    }
+    let Some((shown, place)) = advance_at(r.list, r.place)? else {
+        return Ok(None);
+    };
+    r.place = place;
+    Ok(Some(part_at(r.list, shown.from, shown.end)))
 }

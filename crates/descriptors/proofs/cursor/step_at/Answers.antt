@@ -1,81 +1,45 @@
--- `descriptors::cursor::step_at` meets its contract: a step from `at` is the step from the place.
+-- `descriptors::cursor::step_at` meets its contract: a step from `from` is the step from the cursor.
 -- Assumes nothing.
-use mathlib.Core.Path.{◌≡◌, sym, ◌∙◌}
-use mathlib.Core.List.{List}
-use Prim.Native.Nat.{ℕ, ◌+◌, ◌≤◌}
-use native.Mathlib.Omega.{arith}
-use lib.ListN.{length, get_or, drop}
-use Rattle.descriptors.specs.Descriptor.{descriptor_head_size, size_of}
-use Rattle.descriptors.proofs.Split.{size_in}
+use Rattle.std.proofs.Common.{◌≡◌, ◌∙◌, sym, ap, length, arith}
+use lib.ListN.{length-append}
+use Rattle.std.proofs.lemmas.Result.{err_from_is_err_and}
+use Rattle.descriptors.specs.Descriptor.{type_of, is_reserved}
+use Rattle.descriptors.specs.Walked.{Begins}
 use Rattle.descriptors.proofs.Turns.{step-one, step-refused, step_turn, step-stop, step_end}
-use Rattle.descriptors.proofs.Answers.{step_past, step_inside}
-use Rattle.descriptors.proofs.cursor.step_at.Goals.{Else-n-eq0}
+use Rattle.descriptors.proofs.cursor.step_at.Goals.{After-reserves}
 use Rattle.descriptors.proofs.cursor.step_at.Goals as goal
 
--- a descriptor stands at `at`: its size lies in the list
-module _ (c : Else-n-eq0) where
-  abbrev list : List ℕ
-  list = c.args.list.now
+module _ (c : After-reserves) where
+  begins : Begins c.loop-d.d-iterator.left.now c.in_ok-d.d.now c.next.new.self.left.now
+  begins = rw c.in_ok-d.was at c.in-Some.ensures.steps
 
-  abbrev here : ℕ
-  here = c.loop-at.at
+  -- the code's test of the type is the definition's
+  kept_back : is_reserved c.args.c.opening.label (type_of c.in_ok-d.d.now) ≡ c.reserves.result
+  kept_back = ap (is_reserved c.args.c.opening.label) (sym c.type_of.ensures.0) ∙ sym c.reserves.ensures
 
-  abbrev size : ℕ
-  size = c.size_at-n.result
+pub returns-in_err-d : goal.returns-in_err-d
+returns-in_err-d c =
+    let none = rw c.in_err-d.was at c.in-Some.ensures.steps in
+    let handed = err_from_is_err_and c.from_residual-in_err-d.result c.from_residual-in_err-d.ensures.1 in
+    rw (handed.1, handed.2, none.refusal) (sym (step-stop _ _ none _) ∙ c.loop-d.invariant.same)
 
-  size_is : size ≡ size_of (drop here list)
-  size_is = c.size_at-n.ensures
+pub returns-then-not-reserves : goal.returns-then-not-reserves
+returns-then-not-reserves c =
+    let w = (goal.at.returns-then-not-reserves c).After-reserves in
+    sym (step-one _ _ (begins w) _ (kept_back w ∙ c.if-not-reserves.true)) ∙ c.loop-d.invariant.same
 
-  type_is : c.read8-kind.result ≡ get_or list here 0
-  type_is = c.read8-kind.ensures.0
+pub returns-then-c : goal.returns-then-c
+returns-then-c c =
+    let w = (goal.at.returns-then-c c).After-reserves in
+    sym (step-refused _ _ (begins w) _ (kept_back w ∙ c.if-not-reserves.false) c.if-c.true) ∙ c.loop-d.invariant.same
 
-  ended : (descriptor_head_size ≤ size) × (here + size ≤ length list)
-  ended = size_in list here size size_is c.if-n-eq0.false
-
-pub returns-then-list-place : goal.returns-then-list-place
-returns-then-list-place c = let a = c.args in sym (step_past a.label a.strict a.list.now a.place c.if-list-place.true)
-
-pub loop-at-init : goal.loop-at-init
-loop-at-init c =
-    let a = c.args in (omega arith, sym (step_inside a.label a.strict a.list.now a.place c.if-list-place.false))
-
-pub returns-then-n-eq0 : goal.returns-then-n-eq0
-returns-then-n-eq0 c =
-    sym
-    (sym c.loop-at.invariant.1
-    ∙ step-stop _ _ c.loop-at-test.true (sym c.size_at-n.ensures ∙ c.if-n-eq0.true) _ _)
-
-pub overflow_add-result : goal.overflow_add-result
-overflow_add-result c = omega (arith, (ended (goal.at.overflow_add-result c).Else-n-eq0).1)
-
-pub returns-then-not-reserved : goal.returns-then-not-reserved
-returns-then-not-reserved c =
-    let w = (goal.at.returns-then-not-reserved c).Else-n-eq0 in
-    sym
-    (sym c.loop-at.invariant.1
-    ∙ step-one (list w) (here w) _ _ (size_is w) c.if-n-eq0.false (type_is w) _ _ (sym c.reserved.ensures ∙ c.if-not-reserved.true))
-
-pub returns-then-strict : goal.returns-then-strict
-returns-then-strict c =
-    let w = (goal.at.returns-then-strict c).Else-n-eq0 in
-    sym
-    (sym c.loop-at.invariant.1
-    ∙ step-refused (list w) (here w) _ _ (size_is w) c.if-n-eq0.false (type_is w) _ _ (sym c.reserved.ensures ∙ c.if-not-reserved.false) c.if-strict.true)
-
-pub overflow_add-at : goal.overflow_add-at
-overflow_add-at c = omega (arith, (ended (goal.at.overflow_add-at c).Else-n-eq0).1)
-
-pub loop-at-smaller : goal.loop-at-smaller
-loop-at-smaller c =
-    let w = (goal.at.loop-at-smaller c).Else-n-eq0 in omega (arith, (ended w).0, (ended w).1)
-
-pub loop-at-preserved : goal.loop-at-preserved
-loop-at-preserved c =
-    let w = (goal.at.loop-at-preserved c).Else-n-eq0 in (
-      (ended w).1,
-      sym (step_turn (list w) (here w) _ _ (size_is w) c.if-n-eq0.false (type_is w) _ _ (sym c.reserved.ensures ∙ c.if-not-reserved.false) c.if-strict.false)
-          ∙ c.loop-at.invariant.1,
-    )
+pub loop-d-preserved : goal.loop-d-preserved
+loop-d-preserved c =
+    let w = (goal.at.loop-d-preserved c).After-reserves in
+    record {
+      same = sym (step_turn _ _ (begins w) _ (kept_back w ∙ c.if-not-reserves.false) c.if-c.false) ∙ c.loop-d.invariant.same;
+      within = omega (arith, c.loop-d.invariant.within, simp length-append at (ap length (begins w).joined));
+    }
 
 pub returns : goal.returns
-returns c = sym (sym c.loop-at.invariant.1 ∙ step_end _ _ c.loop-at-test.false _ _)
+returns c = sym (step_end _ c.in-None.ensures.steps.0 _ _ _) ∙ c.loop-d.invariant.same

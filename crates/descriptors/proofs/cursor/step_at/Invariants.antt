@@ -1,13 +1,12 @@
-use mathlib.Core.Path.{◌≡◌}
-use Prim.Native.Nat.{◌-◌, ◌≤◌}
-use lib.ListN.{length, drop}
+use Rattle.std.proofs.Common.{◌≡◌, ◌+◌, length}
 use Rattle.descriptors.specs.Parse.{split}
 use Rattle.descriptors.specs.Steps.{split_step, step_answer}
 use Rattle.descriptors.proofs.cursor.step_at.Given as goal
 
-abbrev pub invariant-loop-at : goal.invariant-loop-at
-invariant-loop-at l =
-    (l.at ≤ length l.list) × (split_step l.label l.strict l.at (split (drop l.at l.list)) ≡ step_answer l.label l.strict l.list l.place)
-
-abbrev pub decreases-loop-at : goal.decreases-loop-at
-decreases-loop-at l = length l.list - l.at
+-- a step from `from` is the step from the cursor
+abbrev pub invariant-loop-d : goal.invariant-loop-d
+invariant-loop-d l =
+    record {
+      same : split_step l.c.opening.label l.c.opening.strict l.from (split l.d-iterator.left.now) ≡ step_answer l.c.opening.label l.c.opening.strict l.list l.c.at;
+      within : l.from + length l.d-iterator.left.now ≡ length l.list;
+    }

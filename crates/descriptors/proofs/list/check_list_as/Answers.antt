@@ -1,83 +1,60 @@
--- `descriptors::list::check_list_as` meets its contract: what is left at `at` decides, and what it counts is added to the count so far.
+-- `descriptors::list::check_list_as` meets its contract: what is left decides, and what it counts is added to the count so far.
 -- Assumes nothing.
-use mathlib.Core.Path.{◌≡◌, refl, sym, ap, ◌∙◌}
-use mathlib.Core.List.{List}
-use Prim.Native.Nat.{ℕ, ◌+◌, ◌≤◌}
-use native.Mathlib.Nat.{add_assoc, add-zero, zero-add}
-use native.Mathlib.Omega.{arith}
-use lib.ListN.{length, get_or, drop}
-use Rattle.descriptors.specs.Descriptor.{descriptor_head_size, size_of}
+use Rattle.std.proofs.Common.{◌≡◌, ◌∙◌, sym, ap, ℕ, ◌+◌, false, arith}
+use Rattle.std.proofs.lemmas.Result.{err_from_is_err_and}
+use Rattle.descriptors.specs.Descriptor.{type_of, is_reserved}
 use Rattle.descriptors.specs.Parse.{split}
-use Rattle.descriptors.specs.Tested.{unreserved}
-use Rattle.descriptors.proofs.Split.{size_in}
-use Rattle.descriptors.proofs.Turns.{test_turn, test-refused, count_turn, test-stop, test_end, count_end}
+use Rattle.descriptors.specs.Tested.{split_ok}
+use Rattle.descriptors.specs.Walked.{Begins}
+use Rattle.descriptors.proofs.Turns.{type_admitted, test_turn, test-refused, counts_on, counts_over, count_within, test-stop, test_end, count_end}
 use Rattle.descriptors.proofs.Answers.{list-refused, list_accepted}
-use Rattle.descriptors.proofs.list.check_list_as.Goals.{Else-n-eq0}
+use Rattle.descriptors.proofs.list.check_list_as.Goals.{After-admits, then-not-reserves, else-not-reserves}
 use Rattle.descriptors.proofs.list.check_list_as.Goals as goal
 
--- a descriptor stands at `at`: its size lies in the list
-module _ (c : Else-n-eq0) where
-  abbrev list : List ℕ
-  list = c.args.list.now
+module _ (c : After-admits) where
+  begins : Begins c.loop-d.d-iterator.left.now c.in_ok-d.field-0.now c.next.new.self.left.now
+  begins = rw c.in_ok-d.was at c.in-Some.ensures.steps
 
-  abbrev place : ℕ
-  place = c.loop-at.at
+  -- the code's test of the type is the definition's
+  admitted : type_admitted c.args.opening.label c.args.opening.strict c.loop-d.least (type_of c.in_ok-d.field-0.now) ≡ c.admits.result
+  admitted = ap (type_admitted c.args.opening.label c.args.opening.strict c.loop-d.least) (sym c.type_of-kind.ensures.0) ∙ sym c.admits.ensures
 
-  abbrev size : ℕ
-  size = c.size_at-n.result
+pub returns-in_err-d : goal.returns-in_err-d
+returns-in_err-d c =
+    let none = rw c.in_err-d.was at c.in-Some.ensures.steps in
+    let handed = err_from_is_err_and c.from_residual.result c.from_residual.ensures.1 in
+    rw (handed.1, handed.2, none.refusal) (sym (list-refused _ _ _ (sym c.loop-d.invariant.decides ∙ test-stop _ _ none _)))
 
-  size_is : size ≡ size_of (drop place list)
-  size_is = c.size_at-n.ensures
+pub returns-then-not-admits : goal.returns-then-not-admits
+returns-then-not-admits c =
+    let w = (goal.at.returns-then-not-admits c).After-admits in
+    sym (list-refused _ _ _ (sym c.loop-d.invariant.decides ∙ test-refused _ _ (begins w) _ (admitted w ∙ c.if-not-admits.true)))
 
-  type_is : c.read8-kind.result ≡ get_or list place 0
-  type_is = c.read8-kind.ensures.0
+pub overflow_add-count : goal.overflow_add-count
+overflow_add-count c =
+    let label = c.args.opening.label in
+    let free : is_reserved label (type_of c.in_ok-d.field-0.now) ≡ false = ap (is_reserved label) (sym c.type_of-kind.ensures.0) ∙ sym c.reserves.ensures ∙ c.if-not-reserves.true in
+    omega (arith, c.loop-d.invariant.counts, counts_on label (begins (goal.at.overflow_add-count c).After-admits) free, count_within label c.args.list.now)
 
-  ended : (descriptor_head_size ≤ size) × (place + size ≤ length list)
-  ended = size_in list place size size_is c.if-n-eq0.false
-
-pub loop-at-init : goal.loop-at-init
-loop-at-init c = (omega arith, omega arith, refl, zero-add _)
-
-pub returns-then-n-eq0 : goal.returns-then-n-eq0
-returns-then-n-eq0 c =
-    sym
-    (list-refused _ _ _
-    (sym c.loop-at.invariant.2 ∙ test-stop _ _ c.loop-at-test.true (sym c.size_at-n.ensures ∙ c.if-n-eq0.true) _ _ _))
-
-pub returns-then-not-admitted : goal.returns-then-not-admitted
-returns-then-not-admitted c =
-    let w = (goal.at.returns-then-not-admitted c).Else-n-eq0 in
-    sym
-    (list-refused _ _ _
-    (sym c.loop-at.invariant.2
-    ∙ test-refused (list w) (place w) _ _ (size_is w) c.if-n-eq0.false (type_is w) _ _ _ (sym c.admitted.ensures ∙ c.if-not-admitted.true)))
-
-pub overflow_add-at : goal.overflow_add-at
-overflow_add-at c =
-    let w = (goal.at.overflow_add-at c).Else-n-eq0 in omega (arith, (ended w).0, (ended w).1)
-
-pub loop-at-smaller : goal.loop-at-smaller
-loop-at-smaller c =
-    let w = (goal.at.loop-at-smaller c).Else-n-eq0 in omega (arith, (ended w).0, (ended w).1)
-
-pub loop-at-preserved : goal.loop-at-preserved
-loop-at-preserved c =
-    let w = (goal.at.loop-at-preserved c).Else-n-eq0 in
-    let label = c.args.label in
-    let strict = c.args.strict in
-    let left = split (drop (place w + size w) (list w)) in (
-      (ended w).1,
-      omega (arith, (ended w).0),
-      sym (test_turn (list w) (place w) _ _ (size_is w) c.if-n-eq0.false (type_is w) label strict _ (sym c.admitted.ensures ∙ c.if-not-admitted.false))
-          ∙ c.loop-at.invariant.2,
-      add_assoc c.loop-at.count _ _
-          ∙ ap (λ (m : ℕ). c.loop-at.count + m)
-          (ap (λ (m : ℕ). m + length (unreserved label left.0)) c.counted-count.ensures.0 ∙ sym (count_turn (list w) (place w) _ _ (size_is w) c.if-n-eq0.false (type_is w) label))
-          ∙ c.loop-at.invariant.3,
-    )
+pub loop-d-preserved : goal.loop-d-preserved
+loop-d-preserved c =
+    let label = c.args.opening.label in
+    let w = (goal.at.loop-d-preserved c).After-admits in
+    let kind : is_reserved label (type_of c.in_ok-d.field-0.now) ≡ c.reserves.result = ap (is_reserved label) (sym c.type_of-kind.ensures.0) ∙ sym c.reserves.ensures in
+    record {
+      decides =
+          ap (λ (k : ℕ). split_ok label c.args.opening.strict (k + 1) (split c.next.new.self.left.now)) c.type_of-kind.ensures.0
+          ∙ sym (test_turn _ _ (begins w) _ (admitted w ∙ c.if-not-admits.false))
+          ∙ c.loop-d.invariant.decides;
+      counts = elim c.if-not-reserves.branch [
+        | then-not-reserves b ↦ omega (arith, b.count-is, c.loop-d.invariant.counts, counts_on label (begins w) (kind ∙ b.if-not-reserves.true))
+        | else-not-reserves b ↦ omega (arith, b.count-is, c.loop-d.invariant.counts, counts_over label (begins w) (kind ∙ b.if-not-reserves.false))
+      ];
+    }
 
 pub returns : goal.returns
 returns c =
+    let end = c.in-None.ensures.steps.0 in
     sym
-    (list_accepted _ _ _ _ (sym c.loop-at.invariant.2 ∙ test_end _ _ c.loop-at-test.false _ _ _)
-    (sym (add-zero c.loop-at.count) ∙ ap (λ (m : ℕ). c.loop-at.count + m) (sym (count_end _ _ c.loop-at-test.false _)) ∙ c.loop-at.invariant.3))
+    (list_accepted _ _ _ _ (sym c.loop-d.invariant.decides ∙ test_end _ end _ _ _)
+    (omega (arith, c.loop-d.invariant.counts, count_end _ end c.args.opening.label)))

@@ -1,16 +1,13 @@
-use mathlib.Core.Path.{◌≡◌}
-use Prim.Native.Nat.{◌+◌, ◌-◌, ◌≤◌}
-use lib.ListN.{length, drop}
+use Rattle.std.proofs.Common.{◌≡◌, ◌+◌, length}
 use Rattle.descriptors.specs.Parse.{split}
 use Rattle.descriptors.specs.Tested.{split_ok, list_ok, unreserved, count_of}
 use Rattle.descriptors.proofs.list.check_list_as.Given as goal
 
-abbrev pub invariant-loop-at : goal.invariant-loop-at
-invariant-loop-at l =
-    (l.at ≤ length l.list)
-    × (l.count ≤ l.at)
-    × (split_ok l.label l.strict l.least (split (drop l.at l.list)) ≡ list_ok l.label l.strict l.list)
-    × (l.count + length (unreserved l.label (split (drop l.at l.list)).0) ≡ count_of l.label l.list)
-
-abbrev pub decreases-loop-at : goal.decreases-loop-at
-decreases-loop-at l = length l.list - l.at
+-- what is left decides, and what it counts is added to the count so far
+abbrev pub invariant-loop-d : goal.invariant-loop-d
+invariant-loop-d l =
+    let left = split l.d-iterator.left.now in
+    record {
+      decides : split_ok l.opening.label l.opening.strict l.least left ≡ list_ok l.opening.label l.opening.strict l.list;
+      counts : l.count + length (unreserved l.opening.label left.0) ≡ count_of l.opening.label l.list;
+    }
