@@ -5,9 +5,11 @@
 ghost use Rattle.std.specs.Prelude.{◌≡◌};
 ghost use Rattle.keywrap.specs.Calls.{unwrap_answer};
 
+use refusals::number;
+
 #[unsafe(no_mangle)]
 pub extern "C" fn spadeswirl_unwrap(kek: &[u8], wrapped: &[u8], out: &mut [u8]) -> u8
     ensures { unwrap_answer kek.now wrapped.now out.old ≡ (result, out.new) }
 {
-    keywrap::unwrap(kek, wrapped, out)
+    number(keywrap::unwrap(kek, wrapped, out))
 }
