@@ -7,37 +7,29 @@ ghost use Rattle.aes_fast.specs.ByTables.{cipher_by};
 ghost use Rattle.aes_fast.specs.Laws.{Ciphered};
 
 use aes_fast::Keyed;
-use aes_fast::halves::halves_at;
-use octets::strings::{Block, xor_blocks};
+use aes_fast::halves::{Halves, add_halves};
+use octets::strings::Block;
 
 // A part that stays within the block, added from place k on.
-fn add_bytes(k: usize, y: Block, part: &[u8]) -> Block
+fn add_part(k: usize, y: Block, part: &[u8]) -> Block
     requires { k + length part.now ≤ 16 }
     ensures { result ≡ add_from k y part.now }
 {
-    let mut x = y;
-    let mut j = 0;
-    while j < part.len() {
-        x[k + j] = x[k + j] ^ part[j];
-        j += 1;
-    }
-    x
+    let mut b = [0u8; 16];
+    b[k..k + part.len()].copy_from_slice(part);
+    Block::from(add_halves(Halves::from(y), Halves::from(b)))
 }
 
 // A part from the start of a block: whole blocks as blocks, and then the rest.
 fn absorb_blocks(cipher: Keyed, y: Block, part: &[u8]) -> Block
     ensures { result ≡ absorb (cipher_by cipher.entry.tables.now cipher.entry.keys.now) 0 y part.now }
 {
-    let n = part.len();
+    let (blocks, rest) = part.as_chunks::<16>();
     let mut x = y;
-    let mut at = 0;
-    while 16 <= n - at {
-        let b = Block::from(halves_at(part, at));
-        let u = cipher.encrypt(xor_blocks(x, b));
-        x = u;
-        at += 16;
+    for b in blocks {
+        x = cipher.encrypt(Block::from(add_halves(Halves::from(x), Halves::from(*b))));
     }
-    add_bytes(0, x, &part[at..])
+    add_part(0, x, rest)
 }
 
 // A part of any length, from place k of a block: what fills that block, and the rest from the start of the next.
@@ -50,9 +42,9 @@ pub fn absorb(cipher: Keyed, k: usize, y: Block, part: &[u8]) -> Block
     }
     let room = 16 - place;
     if part.len() < room {
-        return add_bytes(place, y, part);
+        return add_part(place, y, part);
     }
-    let x = cipher.encrypt(add_bytes(place, y, &part[..room]));
+    let x = cipher.encrypt(add_part(place, y, &part[..room]));
     absorb_blocks(cipher, x, &part[room..])
 }
 

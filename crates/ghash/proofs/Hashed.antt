@@ -4,14 +4,13 @@ use mathlib.Core.Path.{◌≡◌, refl, sym, ap, ap₂, ◌∙◌}
 use mathlib.Core.List.{List, [], ◌∷◌, ◌++◌}
 use Prim.Native.Nat.{ℕ, ◌+◌, ◌-◌, ◌%◌, ◌≤◌, ◌<◌}
 use native.Mathlib.Omega.{arith}
-use lib.ListN.{length, take, drop, length-take, length-drop, take-append-drop}
-use lib.Seq.{drop-drop, take_all}
+use lib.ListN.{length, take, drop, length-take, take-append-drop}
 use Rattle.octets.specs.Xor.{xors}
 use Rattle.octets.specs.BigEndian.{number}
 use Rattle.octets.specs.Blocks.{cut, chain}
 use Rattle.octets.specs.Running.{add_from, absorb, close}
 use Rattle.octets.proofs.Blocks.{chain_append, length-chain, chain_same}
-use Rattle.octets.proofs.Running.{absorb_append, absorb_within, absorb-whole, absorb-blocks, close-chain, close-parts}
+use Rattle.octets.proofs.Running.{absorb_append, absorb-whole, close-chain, close-parts}
 use Rattle.ghash.specs.declared.words.Wide.{Wide}
 use Rattle.ghash.specs.Field.{times_h}
 use Rattle.ghash.specs.Product.{product}
@@ -21,21 +20,6 @@ use Rattle.ghash.specs.Ghash.Inside.{ghash_is}
 use Rattle.ghash.specs.Words.{block_of}
 use Rattle.ghash.proofs.Wide.{length-block_of}
 use Rattle.ghash.proofs.Laws.{length-times_h}
-
--- a turn over whole blocks: the block at place i of the text
-pub absorb_block_at : (h : ℕ) (s w sum r : Wide) (text : List ℕ) (i : ℕ) → i + 16 ≤ length text → block_of w ≡ take 16 (drop i text)
-    → block_of sum ≡ xors (block_of s) (block_of w) → block_of r ≡ times_h h (block_of sum)
-    → absorb (times_h h) 0 (block_of r) (drop (i + 16) text) ≡ absorb (times_h h) 0 (block_of s) (drop i text)
-absorb_block_at h s w sum r text i fits ew es er =
-    ap₂ (λ (y t : List ℕ). absorb (times_h h) 0 y t) (er ∙ ap (times_h h) (es ∙ ap (xors (block_of s)) ew)) (sym (drop-drop 16 i text))
-    ∙ sym (absorb-blocks (times_h h) (block_of s) (drop i text) (length-block_of s) (omega (arith, length-drop i text)))
-
--- what is left after the last whole block
-pub absorb_last : (h : ℕ) (s : Wide) (text : List ℕ) (i : ℕ) → length text - i < 16
-    → add_from 0 (block_of s) (take (length text - i) (drop i text)) ≡ absorb (times_h h) 0 (block_of s) (drop i text)
-absorb_last h s text i short =
-    ap (add_from 0 (block_of s)) (take_all (length text - i) (drop i text) (omega (arith, length-drop i text)))
-    ∙ sym (absorb_within (times_h h) 0 (block_of s) (drop i text) (length-block_of s) (omega (arith, length-drop i text)))
 
 -- a text that fills the block begun at place k and goes on: its first n bytes, and the rest from a block's beginning
 pub absorb-over : (h : ℕ) (y part whole r : Wide) (text : List ℕ) (k n m : ℕ) → k < 16 → n ≡ 16 - k → m ≡ n → n ≤ length text

@@ -52,10 +52,5 @@ pub record Filled (f : ℕ → ℕ) (t : List ℕ) (n : ℕ) : Type 0 where
 abbrev pub TableOf : (fine : Bool) (v : ℕ) (t : List ℕ) → Type 0
 TableOf fine v t = Filled (entry_at (window_width fine) v) t (entries fine)
 
--- fine tables, of the two words of a block, or one small table
-abbrev pub TablesOf : (fine : Bool) (h : ℕ) (front back : List ℕ) → Type 0
-TablesOf true h front back = TableOf true h front × TableOf true (times_xs 64 h) back
-TablesOf false h front back = TableOf false h front
-
 abbrev pub Room : Bool → List ℕ → Type 0
 Room fine t = length t ≡ 2 * entries fine

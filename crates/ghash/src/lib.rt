@@ -1,7 +1,6 @@
 // GHASH of SP 800-38D.
 #![tactic(auto)]
 
-mod edges;
 pub mod hash;
 mod running;
 mod table;

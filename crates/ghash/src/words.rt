@@ -1,13 +1,15 @@
 // Blocks as 128-bit numbers in two words.
-ghost use Rattle.std.specs.Prelude.{◌≡◌, [], ◌∷◌, ◌+◌, ◌≤◌, length, take, drop};
+ghost use Rattle.std.specs.Prelude.{◌≡◌, ◌+◌, ◌≤◌, length};
 ghost use Rattle.std.specs.Int.Bits.{bit_xor};
-ghost use Rattle.octets.specs.BigEndian.{be, number};
+ghost use Rattle.octets.specs.BigEndian.{number};
+ghost use Rattle.octets.specs.Running.{add_from};
 ghost use Rattle.octets.specs.Xor.{xors};
 ghost use Rattle.ghash.specs.Field.{times_x, times_xs};
 ghost use Rattle.ghash.specs.Words.{val, block_of};
 
 use octets::big_endian::bytes64;
 use octets::strings::{Block, two_eights};
+use std::ops::BitXor;
 
 #[derive(Clone, Copy)]
 pub struct Wide {
@@ -15,85 +17,74 @@ pub struct Wide {
     pub low: u64,
 }
 
-pub(crate) fn add_wide(a: Wide, b: Wide) -> Wide
-    ensures result_value { val result ≡ bit_xor (val a) (val b) }
-    ensures result_value_2 { block_of result ≡ xors (block_of a) (block_of b) }
-{
-    Wide {
-        high: a.high ^ b.high,
-        low: a.low ^ b.low,
+impl Wide {
+    pub const ZERO: Wide = Wide { high: 0, low: 0 };
+
+    // V of algorithm 1 after one bit of X, with no branch on the bit that falls out.
+    pub(crate) fn times_x(self) -> Wide
+        ensures { val result ≡ times_x (val self) }
+    {
+        Wide {
+            high: (self.high / 2) ^ (self.low % 2 * 0xe100_0000_0000_0000),
+            low: self.high % 2 * 0x8000_0000_0000_0000 + self.low / 2,
+        }
+    }
+
+    // V after 32 bits of X: for each bit that falls out R is added, whose lowest bit does not fall out again.
+    pub(crate) fn times_x32(self) -> Wide
+        ensures { val result ≡ times_xs 32 (val self) }
+    {
+        let out = self.low % 0x1_0000_0000;
+        let added = (out * 0x1_0000_0000)
+            ^ (out * 0x8000_0000)
+            ^ (out * 0x4000_0000)
+            ^ (out * 0x200_0000);
+        Wide {
+            high: (self.high / 0x1_0000_0000) ^ added,
+            low: self.high % 0x1_0000_0000 * 0x1_0000_0000 + self.low / 0x1_0000_0000,
+        }
+    }
+
+    // A part that stays within the block, added from place k on.
+    pub(crate) fn add_part(self, k: usize, part: &[u8]) -> Wide
+        requires { k + length part.now ≤ 16 }
+        ensures { block_of result ≡ add_from k (block_of self) part.now }
+    {
+        let mut b = [0u8; 16];
+        b[k..k + part.len()].copy_from_slice(part);
+        self ^ Wide::from(b)
     }
 }
 
-// V of algorithm 1 after one bit of X, with no branch on the bit that falls out.
-pub(crate) fn times_x(v: Wide) -> Wide
-    ensures { val result ≡ times_x (val v) }
-{
-    Wide {
-        high: (v.high / 2) ^ (v.low % 2 * 0xe100_0000_0000_0000),
-        low: v.high % 2 * 0x8000_0000_0000_0000 + v.low / 2,
+impl BitXor for Wide {
+    type Output = Wide;
+
+    ghost bitxor_gives = { λ a b r. (val r ≡ bit_xor (val a) (val b)) × (block_of r ≡ xors (block_of a) (block_of b)) };
+
+    fn bitxor(self, other: Wide) -> Wide {
+        Wide {
+            high: self.high ^ other.high,
+            low: self.low ^ other.low,
+        }
     }
 }
 
-// V after 32 bits of X: for each bit that falls out R is added, whose lowest bit does not fall out again.
-pub(crate) fn times_x32(v: Wide) -> Wide
-    ensures { val result ≡ times_xs 32 (val v) }
-{
-    let out = v.low % 0x1_0000_0000;
-    let added = (out * 0x1_0000_0000)
-        ^ (out * 0x8000_0000)
-        ^ (out * 0x4000_0000)
-        ^ (out * 0x200_0000);
-    Wide {
-        high: (v.high / 0x1_0000_0000) ^ added,
-        low: v.high % 0x1_0000_0000 * 0x1_0000_0000 + v.low / 0x1_0000_0000,
+impl From<Wide> for Block {
+    ghost from_gives = { λ w b. b ≡ block_of w };
+
+    fn from(w: Wide) -> Block {
+        two_eights(bytes64(w.high), bytes64(w.low))
     }
 }
 
-pub(crate) fn block_of(w: Wide) -> Block
-    ensures { result ≡ block_of w }
-{
-    two_eights(bytes64(w.high), bytes64(w.low))
-}
+impl From<Block> for Wide {
+    ghost from_gives = { λ b w. (block_of w ≡ b) × (val w ≡ number b) };
 
-fn word64_of(a: u8, b: u8, c: u8, d: u8, e: u8, f: u8, g: u8, h: u8) -> u64
-    ensures { be 8 result ≡ a ∷ b ∷ c ∷ d ∷ e ∷ f ∷ g ∷ h ∷ [] }
-{
-    let first = ((a as u64 * 256 + b as u64) * 256 + c as u64) * 256 + d as u64;
-    (((first * 256 + e as u64) * 256 + f as u64) * 256 + g as u64) * 256 + h as u64
-}
-
-// The eight bytes from place i on.
-fn word64_at(s: &[u8], i: usize) -> u64
-    requires { i + 8 ≤ length s.now }
-    ensures { be 8 result ≡ take 8 (drop i s.now) }
-{
-    word64_of(
-        s[i],
-        s[i + 1],
-        s[i + 2],
-        s[i + 3],
-        s[i + 4],
-        s[i + 5],
-        s[i + 6],
-        s[i + 7],
-    )
-}
-
-// The block from place i on.
-pub(crate) fn wide_at(s: &[u8], i: usize) -> Wide
-    requires { i + 16 ≤ length s.now }
-    ensures { block_of result ≡ take 16 (drop i s.now) }
-{
-    Wide {
-        high: word64_at(s, i),
-        low: word64_at(s, i + 8),
+    fn from(b: Block) -> Wide {
+        let (words, _) = b.as_chunks::<8>();
+        Wide {
+            high: u64::from_be_bytes(words[0]),
+            low: u64::from_be_bytes(words[1]),
+        }
     }
-}
-
-pub(crate) fn wide_of(b: Block) -> Wide
-    ensures result_value { block_of result ≡ b }
-    ensures result_value_2 { val result ≡ number b }
-{
-    wide_at(&b, 0)
 }

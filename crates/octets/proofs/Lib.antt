@@ -8,6 +8,7 @@ pub mod Lowest
 pub mod Unique
 pub mod Blocks
 pub mod Running
+pub mod Chunks
 pub mod Tests
 pub mod Split
 pub mod Arrays

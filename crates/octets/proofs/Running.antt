@@ -44,17 +44,6 @@ add_from_cons k y b s h =
     places : k + suc (length s) ≡ suc k + length s
     places = omega arith
 
--- ---- byte by byte: the byte at place j of s, of what is left from there, and after the last
-
-module _ (k : ℕ) (y s : List ℕ) (j : ℕ) where
-  pub add_from_turn : j < length s → k + j < length y
-      → add_from (k + (j + 1)) (add_at (k + j) y (get_or s j 0)) (drop (j + 1) s) ≡ add_from (k + j) y (drop j s)
-  add_from_turn h room =
-      rw (drop-cons s j 0 h, add-one j, add-suc k j) (sym (add_from_cons (k + j) y (get_or s j 0) (drop (suc j) s) room))
-
-  pub add_from_end : length s ≤ j → k + j ≤ 16 → length y ≡ 16 → add_from (k + j) y (drop j s) ≡ y
-  add_from_end h room size = rw (drop_of_length-le s h) (add_from_nil (k + j) y size room)
-
 -- ---- absorb
 
 module _ (f : List ℕ → List ℕ) where

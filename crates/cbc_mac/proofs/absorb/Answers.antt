@@ -33,7 +33,7 @@ returns-then-part-room c =
     let a = c.args in
     let f = cipher_by a.cipher.tables.now a.cipher.keys.now in
     absorb_ciphered a.cipher.tables.now a.cipher.keys.now a.y (state (goal.at.returns-then-part-room c).Start) (a.k % 16) a.part.now (record { byte = λ k. omega (arith, c.type_inv.part k) })
-    (c.add_bytes.ensures ∙ sym (absorb_within f (a.k % 16) a.y a.part.now (state (goal.at.returns-then-part-room c).Start).size (omega arith)))
+    (c.add_part.ensures ∙ sym (absorb_within f (a.k % 16) a.y a.part.now (state (goal.at.returns-then-part-room c).Start).size (omega arith)))
 
 pub returns : goal.returns
 returns c =
@@ -45,7 +45,7 @@ returns c =
     (c.absorb_blocks-2.ensures
     ∙ ap₂ (absorb f 0)
     (c.encrypt-x.ensures.by-tables
-    ∙ ap f c.add_bytes-2.ensures
+    ∙ ap f c.add_part-2.ensures
     ∙ sym (absorb-whole f (a.k % 16) a.y head (state (goal.at.returns c).Start).size (simp length-take (omega arith)) (simp length-take (omega arith))))
     (rest_all a.part.now n)
     ∙ absorb_to_block f (a.k % 16) a.y a.part.now n (mod-lt a.k (lit< tt)) (omega arith) (omega arith))

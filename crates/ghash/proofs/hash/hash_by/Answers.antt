@@ -9,11 +9,12 @@ use Rattle.ghash.proofs.hash.hash_by.Goals as goal
 
 pub returns : goal.returns
 unfolding block_of
-returns c = λ h t.
+returns g c =
     let a = c.args in
-    let n = number h in
-    c.block_of.ensures
-    ∙ hashed-parts h n refl a.a.now a.b.now a.text.now _ _ _ _ _ _ _ _
+    let n = number a.h in
+    let t = c.fill.ensures in
+    c.from-2.ensures
+    ∙ hashed-parts a.h n refl a.a.now a.b.now a.text.now _ _ _ _ _ _ _ _
     (c.absorb_text-first.ensures n t) (c.absorb_text-second.ensures n t) (c.close_block-closed.ensures n t)
     (c.absorb_text-third.ensures n t) (c.close_block-whole.ensures n t)
-    (c.add_wide.ensures.result_value_2 ∙ ap (xors (block_of c.close_block-whole.result)) c.wide_of.ensures.result_value) (c.times_table.ensures n t)
+    (c.bitxor.ensures.1 ∙ ap (xors (block_of c.close_block-whole.result)) c.from.ensures.0) (c.times.ensures n t)

@@ -1,5 +1,5 @@
 use mathlib.Core.Path.{◌≡◌}
-use Prim.Native.Nat.{ℕ, ◌+◌, ◌-◌, ◌≤◌}
+use Prim.Native.Nat.{ℕ, ◌+◌}
 use lib.ListN.{length}
 use Rattle.ghash.specs.Table.{Sums, Filled}
 use Rattle.ghash.specs.Words.{val}
@@ -7,8 +7,5 @@ use Rattle.ghash.proofs.table.extend.Given as goal
 
 abbrev pub invariant-loop-m : goal.invariant-loop-m
 invariant-loop-m l =
-    (l.m ≤ l.t) × (length l.table ≡ length l.initial.table)
+    (length l.table ≡ length l.initial.table)
     × ((f : ℕ → ℕ) → Sums f l.base l.t (val l.p) → Filled f l.initial.table (l.base + l.t) → Filled f l.table (l.base + l.t + l.m))
-
-abbrev pub decreases-loop-m : goal.decreases-loop-m
-decreases-loop-m l = l.t - l.m

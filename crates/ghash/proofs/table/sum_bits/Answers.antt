@@ -1,13 +1,13 @@
 -- `ghash::table::sum_bits` meets its contract. The loop's invariant: the sum, and what the first four bits and the k windows that are left add.
 -- Assumes nothing.
-use mathlib.Core.Path.{◌≡◌, ap, ◌∙◌}
-use Prim.Native.Nat.{ℕ, ◌+◌, ◌*◌, ◌-◌, ◌≤◌, ◌<◌}
+use mathlib.Core.Path.{◌≡◌, refl, ap, ◌∙◌}
+use Prim.Native.Nat.{ℕ, ◌+◌, ◌*◌, ◌-◌, ◌/◌, ◌%◌, ◌^◌, ◌≤◌, ◌<◌}
 use native.Mathlib.Omega.{arith}
 use lib.Bits.{bit_xor}
-use Rattle.ghash.specs.Table.{adds, window_width}
+use Rattle.ghash.specs.Table.{adds, window_width, windows, entries, entry_in}
 use Rattle.ghash.specs.Words.{val}
 use Rattle.ghash.proofs.Entries.{word_turn, word_end}
-use Rattle.ghash.proofs.Windows.{windows-none, entries_four}
+use Rattle.ghash.proofs.Windows.{windows-none, entries_four, window_within, mod_below}
 use Rattle.ghash.proofs.table.sum_bits.Goals as goal
 
 back : (k : ℕ) → 0 < k → k - 1 + 1 ≡ k
@@ -18,32 +18,34 @@ back k h = omega arith
 within : (i n s e : ℕ) → i + s ≤ e → n < s → i + n < e
 within i n s e h k = omega arith
 
+pub loop-k-init : goal.loop-k-init
+loop-k-init g c = λ v t.
+    ap (λ (n : ℕ). adds (4 + window_width g.C.Cut.fine * n) v c.args.w) (c.WINDOWS-k.ensures ∙ g.met.C.Cut.windows_are)
+
 pub loop-k-preserved : goal.loop-k-preserved
-loop-k-preserved c =
+loop-k-preserved g c = λ v t.
     let l = c.loop-k in
-    let fine = c.args.fine in
+    let fine = g.C.Cut.fine in
     let b = window_width fine in
     let k = l.k - 1 in
-    let i = c.place.result + c.last_window.result in (
-      omega (arith, l.invariant.0),
-      λ v t.
-          ap (λ (n : ℕ). bit_xor (val c.add_wide-sum.result) (adds (4 + b * k) v n)) c.other_windows-left.ensures
-          ∙ word_turn b k v l.left (val l.sum) (val c.add_wide-sum.result) i
-          c.last_window.result c.last_window.ensures.0 c.last_window.ensures.1
-          (ap (λ (n : ℕ). n + c.last_window.result) c.place.ensures.0)
-          (c.add_wide-sum.ensures.result_value
-          ∙ ap (bit_xor (val l.sum)) (c.read_entry.ensures ∙ t.at i (within _ _ _ _ c.place.ensures.1 c.last_window.ensures.1)))
-          ∙ ap (λ (n : ℕ). bit_xor (val l.sum) (adds (4 + b * n) v l.left)) (back l.k (omega arith))
-          ∙ l.invariant.1 v t,
-    )
+    let size : c.SIZE-size.result ≡ 2 ^ b = c.SIZE-size.ensures ∙ g.met.C.Cut.size_is in
+    let low : l.left % c.SIZE-size.result ≡ l.left % 2 ^ b = ap (λ (n : ℕ). l.left % n) size in
+    let few : k < windows fine = omega (arith, c.WINDOWS-k.ensures ∙ g.met.C.Cut.windows_are) in
+    let i = 16 + k * 2 ^ b + l.left % 2 ^ b in
+    let place : 16 + k * c.SIZE-size.result + l.left % c.SIZE-size.result ≡ i = ap (λ (n : ℕ). 16 + k * n + l.left % n) size in
+    let fits : i < entries fine = within _ _ _ _ (window_within fine k few) (mod_below fine l.left) in
+    ap (λ (n : ℕ). bit_xor (val c.bitxor-sum.result) (adds (4 + b * k) v (l.left / n))) size
+    ∙ word_turn b k v l.left (val l.sum) (val c.bitxor-sum.result) i (l.left % 2 ^ b) refl (mod_below fine l.left) refl
+    (c.bitxor-sum.ensures.0 ∙ ap (bit_xor (val l.sum)) (c.read_entry.ensures ∙ ap (entry_in c.args.table.now) place ∙ t.at i fits))
+    ∙ ap (λ (n : ℕ). bit_xor (val l.sum) (adds (4 + b * n) v l.left)) (back l.k (omega arith))
+    ∙ l.invariant v t
 
 pub returns : goal.returns
-returns c = λ v t.
+returns g c = λ v t.
     let l = c.loop-k in
-    let fine = c.args.fine in
-    let i = c.last_window-2.result in
-    word_end (window_width fine) v l.left (val l.sum) (val c.add_wide.result) i c.last_window-2.ensures.0 c.last_window-2.ensures.1
-    (c.add_wide.ensures.result_value
-    ∙ ap (bit_xor (val l.sum)) (c.read_entry-2.ensures ∙ t.at i (omega (arith, c.last_window-2.ensures.1, entries_four fine))))
+    let fine = g.C.Cut.fine in
+    let i = l.left % 16 in
+    word_end (window_width fine) v l.left (val l.sum) (val c.bitxor.result) i refl (omega arith)
+    (c.bitxor.ensures.0 ∙ ap (bit_xor (val l.sum)) (c.read_entry-2.ensures ∙ t.at i (omega (arith, entries_four fine))))
     ∙ ap (λ (n : ℕ). bit_xor (val l.sum) (adds n v l.left)) (windows-none (window_width fine) l.k (omega arith))
-    ∙ l.invariant.1 v t
+    ∙ l.invariant v t
