@@ -146,5 +146,5 @@ writes_again p out n bytes accepted forty roomy =
       carried = forty;
     }) in
     ap (λ (l : List ℕ). write_answer (chosen_in p) (key_part_lem p) l out n) (strict-shows-whole false (list_in p) (list_good p accepted))
-    ∙ write_done (chosen_in p) (key_part_lem p) (list_in p) out n 0 (sym zero) refl
+    ∙ write_done (chosen_in p) (key_part_lem p) (list_in p) out n zero
     ∙ ap₂ (λ (q : List ℕ) (m : ℕ). ((0, over q out), m)) same (sym sized ∙ total)

@@ -12,6 +12,8 @@ use Rattle.octets.specs.BigEndian.{be}
 use Rattle.octets.proofs.Tests.{every_at}
 use Rattle.octets.proofs.Values.{cons_equal}
 use Rattle.keypage.specs.Layout.{page_code, before_length, weight, scope_bits, lock_bits, ceem_bits, rdmc_bits, sdk_bits, ckod_bits, ckorp_bits, ckorl_bits, chosen_bits}
+use Rattle.page_writer.specs.declared.fields.Chosen.{Chosen}
+use Rattle.page_writer.specs.Chosen.{values_of, EachFits}
 use Rattle.page_writer.specs.Written.{head_of}
 use Rattle.page_writer.specs.Write.{fit_tests, fields_fit}
 
@@ -19,6 +21,23 @@ use Rattle.page_writer.specs.Write.{fit_tests, fields_fit}
 pub fit_at : (v : List ℕ) (i n : ℕ) → fields_fit v ≡ true → get_or (fit_tests chosen_bits v 0) i true ≡ ltb (get_or v i 0) n → get_or v i 0 < n
 unfolding fields_fit
 fit_at v i n ok is = ltb-true (get_or v i 0) n (sym is ∙ every_at (fit_tests chosen_bits v 0) i ok)
+
+pub each_fits : (c : Chosen) → fields_fit (values_of c) ≡ true → EachFits c
+each_fits c ok =
+    let v = values_of c in (
+      fit_at v 0 8 ok refl,
+      fit_at v 1 2 ok refl,
+      fit_at v 2 4 ok refl,
+      fit_at v 3 4 ok refl,
+      fit_at v 4 2 ok refl,
+      fit_at v 5 2 ok refl,
+      fit_at v 6 2 ok refl,
+      fit_at v 7 2 ok refl,
+      fit_at v 8 256 ok refl,
+      fit_at v 9 256 ok refl,
+      fit_at v 10 256 ok refl,
+      fit_at v 11 256 ok refl,
+    )
 
 -- bytes 4 and 5
 abbrev pub scope_byte : List ℕ → ℕ

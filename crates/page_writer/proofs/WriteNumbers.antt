@@ -11,22 +11,20 @@ use Rattle.octets.specs.Lent.{is_not}
 use Rattle.octets.proofs.Lent.{is_not-false, test_at, none_applies}
 use Rattle.octets.proofs.Tests.{and_left, or_left, or_right}
 use Rattle.keytable.specs.Row.{name_max, is_kek_type}
-use Rattle.keypage.specs.Layout.{page_max}
 use Rattle.keywrap.specs.Calls.{key_size_lem}
+use Rattle.keypage.specs.Layout.{page_max}
 use Rattle.keypage.specs.Page.{page_list_ok}
-use Rattle.keypage.specs.KeyPart.{wrapped_format, part_long}
+use Rattle.keypage.specs.KeyPart.{wrapped_format, part_refused, part_long}
+use Rattle.page_writer.specs.declared.fields.Chosen.{Chosen}
+use Rattle.page_writer.specs.Chosen.{values_of, EachFits}
 use Rattle.page_writer.specs.Written.{page_size}
-use Rattle.page_writer.specs.Write.{format_given, fields_fit, fields_permitted, fields_good}
-use Rattle.page_writer.specs.Write.{write_broken, write_refused, write_long, not_carried, write_tests, write_number}
+use Rattle.page_writer.specs.Write.{format_given, fields_fit, fields_permitted, fields_good, write_broken, write_refused, write_long, not_carried, write_tests, write_number}
 use Rattle.page_writer.specs.Write.{wrapped_page_size, wrapping_broken, wrapping_refused, wrapping_long, wrapping_tests, wrapping_number}
+use Rattle.page_writer.proofs.Head.{each_fits}
 
 -- ---- a page of a KEY part as it stands
 
 module _ (v s l : List ℕ) (room : ℕ) where
-  pub write_two : write_broken v s l ≡ true → write_number v s l room ≡ 2
-  unfolding write_number
-  write_two a = rw a
-
   pub write_three : write_broken v s l ≡ false → write_refused v s ≡ true → write_number v s l room ≡ 3
   unfolding write_number
   write_three a b = rw (a, b)
@@ -39,18 +37,6 @@ module _ (v s l : List ℕ) (room : ℕ) where
   module _ (a : write_broken v s l ≡ false) (b : write_refused v s ≡ false) (c : write_long v s l ≡ false) where
     pub size_within : page_size (length s) (length l) ≤ page_max
     size_within = ltb-false page_max (page_size (length s) (length l)) (or_left _ (part_long (format_given v) s) c)
-
-    pub write_five : ltb room (page_size (length s) (length l)) ≡ true → write_number v s l room ≡ 5
-    unfolding write_number
-    write_five d = rw (a, b, c, d)
-
-    pub write_eight : ltb room (page_size (length s) (length l)) ≡ false → not_carried v s ≡ true → write_number v s l room ≡ 8
-    unfolding write_number
-    write_eight d e = rw (a, b, c, d, e)
-
-    pub write-zero : ltb room (page_size (length s) (length l)) ≡ false → not_carried v s ≡ false → write_number v s l room ≡ 0
-    unfolding write_number
-    write-zero d e = rw (a, b, c, d, e)
 
 -- no test applies
 pub record WritePassed (v s l : List ℕ) (room : ℕ) : Type 0 where
@@ -71,29 +57,6 @@ pub good_fit : (v : List ℕ) (other : Bool) → (not (fields_good v) || other) 
 good_fit v other e = and_left (fields_fit v) (fields_permitted v) (not-false (fields_good v) (or_left (not (fields_good v)) other e))
 
 -- ---- a page whose key is to be wrapped
-
-module _ (v : List ℕ) (type : ℕ) (identifier key l : List ℕ) (room : ℕ) where
-  pub wrapping_two : wrapping_broken identifier key l ≡ true → wrapping_number v type identifier key l room ≡ 2
-  unfolding wrapping_number
-  wrapping_two a = rw a
-
-  pub wrapping_three : wrapping_broken identifier key l ≡ false → wrapping_refused v type ≡ true → wrapping_number v type identifier key l room ≡ 3
-  unfolding wrapping_number
-  wrapping_three a b = rw (a, b)
-
-  pub wrapping_four : wrapping_broken identifier key l ≡ false → wrapping_refused v type ≡ false → wrapping_long identifier l ≡ true
-      → wrapping_number v type identifier key l room ≡ 4
-  unfolding wrapping_number
-  wrapping_four a b c = rw (a, b, c)
-
-  module _ (a : wrapping_broken identifier key l ≡ false) (b : wrapping_refused v type ≡ false) (c : wrapping_long identifier l ≡ false) where
-    pub wrapping_five : ltb room (wrapped_page_size identifier l) ≡ true → wrapping_number v type identifier key l room ≡ 5
-    unfolding wrapping_number
-    wrapping_five d = rw (a, b, c, d)
-
-    pub wrapping-zero : ltb room (wrapped_page_size identifier l) ≡ false → wrapping_number v type identifier key l room ≡ 0
-    unfolding wrapping_number
-    wrapping-zero d = rw (a, b, c, d)
 
 module _ (identifier l : List ℕ) (c : wrapping_long identifier l ≡ false) where
   pub name_short : length identifier ≤ name_max
@@ -123,3 +86,20 @@ module _ (v : List ℕ) (type : ℕ) (identifier key l : List ℕ) (room : ℕ) 
 
   pub wrapping_key : length key ≡ key_size_lem
   wrapping_key = is_not-false key_size_lem key (or_right (not (page_list_ok l)) (is_not key_size_lem key) (or_left _ (eqb (length identifier) 0) h.whole))
+
+-- ---- what 0 says of the page: its fields fit, and it does not pass its maximum
+
+pub writable : (v : Chosen) (s l : List ℕ) (room : ℕ) → write_number (values_of v) s l room ≡ 0 → EachFits v × (page_size (length s) (length l) ≤ page_max)
+writable v s l room e =
+    let h = write_passed (values_of v) s l room e in
+    (each_fits v (good_fit (values_of v) (part_refused (v.format) s) h.permitted), size_within (values_of v) s l room h.whole h.permitted h.short)
+
+pub wrappable : (v : Chosen) (type : ℕ) (identifier key l : List ℕ) (room : ℕ) → wrapping_number (values_of v) type identifier key l room ≡ 0
+    → EachFits v × (length key ≡ key_size_lem) × (length identifier ≤ name_max) × (wrapped_page_size identifier l ≤ page_max)
+wrappable v type identifier key l room e =
+    let h = wrapping_passed (values_of v) type identifier key l room e in (
+      each_fits v (wrapping_fit (values_of v) type identifier key l room h),
+      wrapping_key (values_of v) type identifier key l room h,
+      name_short identifier l h.short,
+      page_short identifier l h.short,
+    )

@@ -1,6 +1,6 @@
 -- What 0 of either call tells: the page stands in the front of the output, and a reader accepts it.
 -- Assumes nothing.
-use mathlib.Core.Path.{◌≡◌, refl, sym, ap, ◌∙◌}
+use mathlib.Core.Path.{◌≡◌, sym, ap, ◌∙◌}
 use mathlib.Core.Bool.{true}
 use mathlib.Core.List.{List}
 use Prim.Native.Nat.{ℕ, ◌≤◌}
@@ -47,7 +47,7 @@ module _ (v s l out after : List ℕ) (n m : ℕ) (e : write_answer v s l out n 
   answer_passed = write_passed v s l (length out) number
 
   told : ◌≡◌ {A = (ℕ × List ℕ) × ℕ} ((0, over (page_of v s l) out), page_size (length s) (length l)) ((0, after), m)
-  told = sym (write_done v s l out n 0 (sym number) refl) ∙ e
+  told = sym (write_done v s l out n number) ∙ e
 
   pub front_is : take m after ≡ page_of v s l
   front_is =
@@ -61,7 +61,7 @@ written_gives_back v part list out after n m size e =
     let fit = passed_fit v part list (length out) h in
     let short = passed_short v part list (length out) h in
     rw (front_is v part list out after n m e) (record {
-      reads = λ fields. page-fields (page_of v part list) fields 0 (sym (passed_reads v part list (length out) h)) refl ∙ ap (λ (x : List ℕ). (0, x)) (fields_back v part list fit short size);
+      reads = λ fields. page-fields (page_of v part list) fields (passed_reads v part list (length out) h) ∙ ap (λ (x : List ℕ). (0, x)) (fields_back v part list fit short size);
       part_back = part_back v part list fit short;
       list_back = list_back v part list fit short;
     })

@@ -1,3 +1,4 @@
 pub mod Written
 pub mod Write
 pub mod Laws
+pub mod Chosen

@@ -1,51 +1,113 @@
 // The fields, as numbers that are given: whether each has room in its bits, and whether their values are permitted.
 ghost use Rattle.std.specs.Prelude.{◌≡◌, ltb};
+ghost use Rattle.page_writer.specs.Chosen.{values_of};
 ghost use Rattle.page_writer.specs.Write.{format_given, fields_fit, fields_permitted, fields_good};
 
 use crate::CHOSEN_COUNT;
 use keypage::reading::permitted;
-use keypage::sizes::{EIGHT_BITS, ONE_BIT, THREE_BITS, TWO_BITS};
+use keypage::sizes::{
+    ALGORITHM, Bits, CEEM, CKOD, CKORL, CKORP, DECRYPTION, ENCRYPTION, FORMAT, LOCK, RDMC, SCOPE,
+    SDK,
+};
 
-pub(crate) type Chosen = [u64; CHOSEN_COUNT];
-
-fn fits(n: u64, span: usize) -> bool
-    ensures { result ≡ ltb n span }
-{
-    n < span as u64
+#[derive(Clone, Copy)]
+pub(crate) struct Chosen {
+    pub(crate) scope: u64,
+    pub(crate) lock: u64,
+    pub(crate) ceem: u64,
+    pub(crate) rdmc: u64,
+    pub(crate) sdk: u64,
+    pub(crate) ckod: u64,
+    pub(crate) ckorp: u64,
+    pub(crate) ckorl: u64,
+    pub(crate) encryption: u64,
+    pub(crate) decryption: u64,
+    pub(crate) algorithm: u64,
+    pub(crate) format: u64,
 }
 
-fn fields_fit(v: Chosen) -> bool
-    ensures { result ≡ fields_fit v }
-{
-    fits(v[0], THREE_BITS)
-        & fits(v[1], ONE_BIT)
-        & fits(v[2], TWO_BITS)
-        & fits(v[3], TWO_BITS)
-        & fits(v[4], ONE_BIT)
-        & fits(v[5], ONE_BIT)
-        & fits(v[6], ONE_BIT)
-        & fits(v[7], ONE_BIT)
-        & fits(v[8], EIGHT_BITS)
-        & fits(v[9], EIGHT_BITS)
-        & fits(v[10], EIGHT_BITS)
-        & fits(v[11], EIGHT_BITS)
+impl From<[u64; CHOSEN_COUNT]> for Chosen {
+    ghost from_gives = { λ v chosen. values_of chosen ≡ v };
+
+    fn from(v: [u64; CHOSEN_COUNT]) -> Chosen {
+        let [
+            scope,
+            lock,
+            ceem,
+            rdmc,
+            sdk,
+            ckod,
+            ckorp,
+            ckorl,
+            encryption,
+            decryption,
+            algorithm,
+            format,
+        ] = v;
+        Chosen {
+            scope,
+            lock,
+            ceem,
+            rdmc,
+            sdk,
+            ckod,
+            ckorp,
+            ckorl,
+            encryption,
+            decryption,
+            algorithm,
+            format,
+        }
+    }
 }
 
-fn fields_permitted(v: Chosen) -> bool
-    ensures { result ≡ fields_permitted v }
+fn fits(n: u64, field: Bits) -> bool
+    ensures { result ≡ ltb n field.span }
 {
-    permitted(v[0] as usize, v[8] as usize, v[9] as usize, v[10] as usize)
+    n < field.span as u64
 }
 
-// 3 of the fields alone: one is too wide for its bits, or not permitted.
-pub(crate) fn fields_good(v: Chosen) -> bool
-    ensures { result ≡ fields_good v }
-{
-    fields_fit(v) & fields_permitted(v)
-}
+impl Chosen {
+    #[tactic(auto, unfolding(crate::specs::Write::fields_fit))]
+    fn fit(self) -> bool
+        ensures { result ≡ fields_fit (values_of self) }
+    {
+        fits(self.scope, SCOPE)
+            & fits(self.lock, LOCK)
+            & fits(self.ceem, CEEM)
+            & fits(self.rdmc, RDMC)
+            & fits(self.sdk, SDK)
+            & fits(self.ckod, CKOD)
+            & fits(self.ckorp, CKORP)
+            & fits(self.ckorl, CKORL)
+            & fits(self.encryption, ENCRYPTION)
+            & fits(self.decryption, DECRYPTION)
+            & fits(self.algorithm, ALGORITHM)
+            & fits(self.format, FORMAT)
+    }
 
-pub(crate) fn format_given(v: Chosen) -> usize
-    ensures { result ≡ format_given v }
-{
-    v[11] as usize
+    #[tactic(auto, unfolding(crate::specs::Write::fields_permitted))]
+    fn permitted(self) -> bool
+        ensures { result ≡ fields_permitted (values_of self) }
+    {
+        permitted(
+            self.scope as usize,
+            self.encryption as usize,
+            self.decryption as usize,
+            self.algorithm as usize,
+        )
+    }
+
+    // 3 of the fields alone: one is too wide for its bits, or not permitted.
+    pub(crate) fn good(self) -> bool
+        ensures { result ≡ fields_good (values_of self) }
+    {
+        self.fit() & self.permitted()
+    }
+
+    pub(crate) fn format(self) -> usize
+        ensures { result ≡ format_given (values_of self) }
+    {
+        self.format as usize
+    }
 }

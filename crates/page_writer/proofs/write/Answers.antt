@@ -1,40 +1,18 @@
--- `page_writer::write` meets its contract: the number is that of the tests, and after 0 the page and its length are stored.
+-- `page_writer::write` meets its contract: what the tests refuse is refused, and else the page and its length are stored.
 -- Assumes nothing.
-use mathlib.Core.Path.{sym, ap₂, ◌∙◌}
-use mathlib.Core.List.{List}
-use Prim.Native.Nat.{ℕ}
-use lib.ListN.{length}
-use Rattle.keypage.specs.KeyPart.{part_refused}
-use Rattle.page_writer.specs.Write.{format_given}
-use Rattle.page_writer.proofs.WriteNumbers.{WritePassed, write_passed, size_within, good_fit}
+use mathlib.Core.Path.{sym}
+use Rattle.std.proofs.lemmas.Result.{err_from_is_err_and}
+use Rattle.page_writer.proofs.WriteNumbers.{writable}
 use Rattle.page_writer.proofs.Answers.{write-refused, write_done}
-use Rattle.page_writer.proofs.write.Goals.{Else-number-ne0}
 use Rattle.page_writer.proofs.write.Goals as goal
 
--- no test applied
+pub returns-in_err-test_writing : goal.returns-in_err-test_writing
+returns-in_err-test_writing c =
+    let q = err_from_is_err_and c.from_residual.result c.from_residual.ensures.1 in
+    rw (q.1, q.2, ← c.from-fields.ensures) (write-refused _ _ _ _ _ _ c.in_err-test_writing.ensures)
 
-passed : (c : Else-number-ne0) → let a = c.args in
-    WritePassed a.fields.now a.s.now a.list.now (length a.out.now)
-passed c = write_passed _ _ _ _ (sym c.write_number-number.ensures ∙ c.if-number-ne0.false)
-
-pub returns-then-number-ne0 : goal.returns-then-number-ne0
-returns-then-number-ne0 c = write-refused _ _ _ _ _ _ c.write_number-number.ensures c.if-number-ne0.true
-
-pub fill-requires : goal.fill-requires
-fill-requires c =
-    let at = goal.at.fill-requires c in
-    let h = passed at.Else-number-ne0 in
-    let a = c.args in
-    (good_fit a.fields.now (part_refused (format_given a.fields.now) a.s.now) h.permitted, size_within a.fields.now a.s.now a.list.now 0 h.whole h.permitted h.short)
-
-pub page_size-requires : goal.page_size-requires
-page_size-requires c =
-    let at = goal.at.page_size-requires c in
-    let h = passed at.Else-number-ne0 in
-    let a = c.args in
-    size_within a.fields.now a.s.now a.list.now 0 h.whole h.permitted h.short
+pub invariant_of-page : goal.invariant_of-page
+invariant_of-page c = let h = writable c.from-fields.result _ _ _ (sym c.in_ok-test_writing.ensures) in record { fit = h.0; short = h.1 }
 
 pub returns : goal.returns
-returns c =
-    write_done _ _ _ _ _ _ c.write_number-number.ensures c.if-number-ne0.false
-    ∙ ap₂ (λ (o : List ℕ) (m : ℕ). ((0, o), m)) (sym c.fill.ensures) (sym c.page_size.ensures)
+returns c = rw (← c.from-fields.ensures, c.fill.ensures, c.size.ensures) (write_done _ _ _ _ _ (sym c.in_ok-test_writing.ensures))
