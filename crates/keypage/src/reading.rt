@@ -15,7 +15,7 @@ use crate::sizes::{
     PAGE_LENGTH_AT, PAGE_MAX, PAGE_STRICT, RDMC, SCOPE, SCOPE_MAX, SDK, ZERO_AT, ZERO_BITS,
     ZERO_SIZE,
 };
-use descriptors::list::{Tested, check_list_as};
+use descriptors::list::{Opening, check_list_as};
 use octets::big_endian::{read8, read16};
 use octets::strings::{all_zero, part};
 use refusals::Refusal;
@@ -23,7 +23,12 @@ use refusals::Refusal;
 // The fields that reading and loading store, in the order of the C interface.
 pub const FIELD_COUNT: usize = 14;
 
-// Whether the list is stepped along strict: as it is tested.
+// How a page's list is opened, to be tested and to be stepped along.
+pub const LIST_OPENING: Opening = Opening {
+    label: false,
+    strict: PAGE_STRICT,
+};
+
 pub const LIST_STRICT: bool = PAGE_STRICT;
 
 // How many descriptors of a page's list are not reserved, where the list is accepted.
@@ -32,10 +37,7 @@ fn list_count(list: &[u8]) -> Result<usize, Refusal>
     ensures count { IfOk result (λ n. n ≡ page_list_count list.now) }
     ensures refused { IfErr result (λ e. e ≡ Refusal.Layout) }
 {
-    match check_list_as(list, false, PAGE_STRICT) {
-        Tested::Counted(n) => Ok(n),
-        Tested::Refused => Err(Refusal::Layout),
-    }
+    check_list_as(list, LIST_OPENING)
 }
 
 // Whether a page's list is accepted.
