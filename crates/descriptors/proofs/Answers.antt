@@ -1,4 +1,4 @@
--- The answers of the calls: where a test fails and where none does, and what an enum's case tells of its input.
+-- The answers of the calls: where a test fails and where none does.
 -- Assumes nothing.
 use mathlib.Core.Path.{◌≡◌, refl, sym, ap, ◌∙◌}
 use mathlib.Core.Bool.{Bool, true, false, not, ◌&&◌, and-false, false≢true}
@@ -9,13 +9,12 @@ use Prim.Native.Nat.{ℕ, ◌≤◌, ◌<◌}
 use native.Mathlib.Omega.{arith}
 use borrow.Author.Tests.{lt-ltb, le-ltb, le-leb}
 use lib.Dec.{eqb, leb}
-use lib.ListN.{length, get_or, take, drop}
+use lib.ListN.{length, get_or, take}
 use Rattle.octets.specs.Lent.{lowest, kept}
 use Rattle.octets.specs.Tests.{every, all, zeros}
 use Rattle.descriptors.specs.Tested.{list_ok, list_number, list_answer, count_of}
-use Rattle.descriptors.specs.Parse.{split}
-use Rattle.descriptors.specs.Steps.{split_step, step_answer, cursor_at_start, begun_of}
-use Rattle.descriptors.specs.Labels.{label_max, list_of, holds, label_shape, label_strict, label_ok, label_number, label_answer, label_check}
+use Rattle.descriptors.specs.Steps.{cursor_at_start, begun_of}
+use Rattle.descriptors.specs.Labels.{label_max, list_of, holds, label_shape, label_strict, label_ok, label_number, label_answer}
 
 -- 0 and one value that comes with it
 zero-counted : (m k n : ℕ) → ◌≡◌ {A = ℕ × List ℕ} (m, kept m (k ∷ []) []) (0, n ∷ []) → (m ≡ 0) × (n ≡ k)
@@ -43,15 +42,6 @@ module _ (label strict : Bool) (s : List ℕ) where
   -- so opening
   pub begun-counted : (n : ℕ) → list_ok label strict s ≡ true → n ≡ count_of label s → record { number = 0; count = n; place = cursor_at_start label strict } ≡ begun_of s label strict
   begun-counted n ok is = rw (ok, is)
-
--- ---- a step
-
-module _ (label strict : Bool) (s : List ℕ) (at : ℕ) where
-  pub step_past : length s < at → step_answer label strict s at ≡ (2, [])
-  step_past h = rw (lt-ltb (length s) at h)
-
-  pub step_inside : at ≤ length s → step_answer label strict s at ≡ split_step label strict at (split (drop at s))
-  step_inside h = rw (le-ltb (length s) at h)
 
 -- ---- a label
 
@@ -116,14 +106,3 @@ module _ (s : List ℕ) where
       go : (ok : Bool) → list_ok true label_strict (list_of s) ≡ ok → (n, []) ≡ label_answer s
       go true h = absurd (let z : ◌≡◌ {A = ℕ} 0 1 = ap (λ (a : ℕ × List ℕ). length a.1) (e ∙ list_accepted true label_strict (list_of s) _ h refl) in omega arith)
       go false h = e ∙ list-refused true label_strict (list_of s) h ∙ sym (label-refused (label_list shape ∙ h))
-
-  -- the call with a lent count, by the label's answer
-  module _ (before : ℕ) where
-    pub lent-counted : (n : ℕ) → label_answer s ≡ (0, n ∷ []) → label_check s before ≡ (0, n)
-    lent-counted n e =
-        let (none, is) = label_count n e in
-        ap (λ (m : ℕ). (m, kept m (count_of true (list_of s)) before)) none ∙ ap (λ (m : ℕ). (0, m)) (sym is)
-
-    pub lent-refused : (number : ℕ) → eqb number 0 ≡ false → label_answer s ≡ (number, []) → label_check s before ≡ (number, before)
-    lent-refused number some e =
-        ap (λ (m : ℕ). (m, kept m (count_of true (list_of s)) before)) (ap (λ (a : ℕ × List ℕ). a.0) e) ∙ rw some

@@ -1,15 +1,14 @@
 -- The size of the descriptor that a list begins with: its bounds, and that it depends on the descriptor's own bytes alone.
 -- Assumes nothing.
 use mathlib.Core.Path.{◌≡◌, refl, sym, ◌∙◌}
-use mathlib.Core.Bool.{Bool, true, false, ◌&&◌}
+use mathlib.Core.Bool.{Bool, true, false}
 use mathlib.Core.List.{List, [], ◌∷◌, ◌++◌}
-use Prim.Native.Nat.{ℕ, ◌+◌, ◌≤◌, ◌<◌}
+use Prim.Native.Nat.{ℕ, ◌≤◌, ◌<◌}
 use native.Mathlib.Omega.{arith}
 use borrow.Author.Tests.{eqb-true, leb-true, eq-eqb, le-leb, lt-leb}
 use lib.ListN.{length, get_or, take, length-append, get_or-append}
 use lib.Seq.{length-take-le, get_or-take}
 use lib.Dec.{eqb, leb}
-use Rattle.octets.specs.BigEndian.{number_at}
 use Rattle.octets.specs.Lent.{when}
 use Rattle.octets.specs.Tests.{every}
 use Rattle.octets.proofs.Tests.{every_at}
@@ -19,12 +18,6 @@ use Rattle.descriptors.specs.Descriptor.{descriptor_head_size, size_said, is_des
 pub size-whole : (s : List ℕ) → eqb (get_or s 1 0) 0 ≡ true → leb (size_said s) (length s) ≡ true → size_of s ≡ size_said s
 unfolding size_of
 size-whole s z fits = rw (z, fits)
-
--- the size as it is read: z the second byte, n the size that is said, and b whether both tests hold
-pub size_read : (s : List ℕ) (z n : ℕ) (b : Bool) → z ≡ get_or s 1 0 → n ≡ number_at 2 s 2 → (eqb z 0 && leb (descriptor_head_size + n) (length s)) ≡ b
-    → when b (descriptor_head_size + n) 0 ≡ size_of s
-unfolding size_of size_said
-size_read s z n b ez en e = rw (← ez, ← en, e)
 
 -- ---- the bounds
 

@@ -4,16 +4,16 @@ use mathlib.Core.Path.{◌≡◌, refl, sym, ap, ap₂, ◌∙◌}
 use mathlib.Core.Bool.{Bool, true, false}
 use mathlib.Core.List.{List, [], ◌∷◌, ◌++◌, flatten, append-nil}
 use mathlib.Core.Option.{some, none}
-use Prim.Native.Nat.{ℕ, ◌+◌, ◌≤◌}
+use Prim.Native.Nat.{ℕ, ◌≤◌}
 use native.Mathlib.Omega.{arith}
 use borrow.Author.Tests.{eqb-true, eqb-false}
-use lib.ListN.{length, take, drop, length-drop}
+use lib.ListN.{length, take, drop}
 use lib.Dec.{eqb}
 use Rattle.octets.specs.Lent.{when}
-use Rattle.octets.specs.Tests.{all, part_of}
+use Rattle.octets.specs.Tests.{all}
 use Rattle.octets.specs.Split.{behind}
 use Rattle.octets.proofs.Split as o
-use Rattle.descriptors.specs.Descriptor.{descriptor_head_size, is_descriptor, size_of}
+use Rattle.descriptors.specs.Descriptor.{is_descriptor, size_of}
 use Rattle.descriptors.specs.Parse.{split, parse}
 use Rattle.descriptors.proofs.Sizes.{said_least, size_bounds, size-nothing, descriptor-parts, descriptor_size, size_descriptor}
 
@@ -33,24 +33,6 @@ split_turn = o.split_turn size_of size_within
 pub split-stop : (s : List ℕ) → size_of s ≡ 0 → split s ≡ ([], s)
 unfolding split
 split-stop = o.split-stop size_of size_within
-
--- at a place of a list, where a descriptor of n bytes stands, or none, or the list ends
-module _ (s : List ℕ) (at : ℕ) where
-  pub place_turn : (n : ℕ) → n ≡ size_of (drop at s) → (n ≡ 0 → ⊥) → split (drop at s) ≡ behind (part_of s at n) (split (drop (at + n) s))
-  unfolding split
-  place_turn = o.place_turn size_of size_within s at
-
-  pub place-stop : size_of (drop at s) ≡ 0 → split (drop at s) ≡ ([], drop at s)
-  unfolding split
-  place-stop = o.place-stop size_of size_within s at
-
-  pub place_end : length s ≤ at → split (drop at s) ≡ ([], [])
-  unfolding split
-  place_end = o.place_end size_of size_within s at
-
-  pub size_in : (n : ℕ) → n ≡ size_of (drop at s) → (n ≡ 0 → ⊥) → (descriptor_head_size ≤ n) × (at + n ≤ length s)
-  size_in n e f =
-      let (four, inside) = size_bounds (drop at s) (λ z. f (e ∙ z)) in (omega arith, omega (arith, length-drop at s))
 
 -- ---- what a parse finds
 

@@ -2,29 +2,25 @@
 -- Assumes nothing.
 use mathlib.Core.Path.{◌≡◌, refl, sym, ap, ◌∙◌}
 use mathlib.Core.Bool.{Bool, true, false, ◌&&◌, not, and-false, false≢true}
-use mathlib.Core.List.{List, [], ◌∷◌}
+use mathlib.Core.List.{List, [], ◌∷◌, flatten}
 use Prim.Native.Nat.{ℕ, ◌+◌, ◌≤◌}
 use native.Mathlib.Nat.{zero-add}
 use native.Mathlib.Omega.{arith}
 use borrow.Author.Tests.{ne_eqb}
-use lib.ListN.{length}
+use lib.ListN.{length, length-append}
 use lib.Dec.{eqb, leb}
 use Rattle.refusals.specs.declared.Refusal.{Refusal}
 use Rattle.octets.specs.Lent.{when}
 use Rattle.octets.specs.Tests.{every, all}
 use Rattle.octets.proofs.Tests.{and_left, and_right, every-not}
-use Rattle.descriptors.specs.Descriptor.{type_of, is_reserved, is_refused}
+use Rattle.descriptors.specs.Descriptor.{type_of, is_reserved, is_refused, is_descriptor}
 use Rattle.octets.specs.Split.{Split, behind}
 use Rattle.descriptors.specs.Parse.{split}
-use Rattle.descriptors.specs.Tested.{rises_from, admits, split_tests, split_ok, unreserved}
+use Rattle.descriptors.specs.Tested.{rises_from, admits, split_tests, split_ok, unreserved, count_of}
 use Rattle.descriptors.specs.Steps.{first_shown, split_step}
-use Rattle.descriptors.specs.Descriptor.{is_descriptor}
-use Rattle.descriptors.specs.Tested.{count_of}
 use Rattle.descriptors.specs.Walked.{Begins, BeginsNone}
 use Rattle.descriptors.proofs.Sizes.{said_least, descriptor-parts, size-nothing}
 use Rattle.descriptors.proofs.Split.{split-stop, split_joined, split-whole}
-use mathlib.Core.List.{flatten}
-use lib.ListN.{length-append}
 
 -- the type is at least the least, and admitted
 abbrev pub type_admitted : Bool → Bool → ℕ → ℕ → Bool

@@ -76,8 +76,8 @@ pub fn advance_at(list: &[u8], c: Cursor) -> Result<Option<(Span, Cursor)>, Refu
 }
 
 // The bytes of a list from one place to another, as the part of the list that they are.
-pub fn part_at<'a>(list: &'a [u8], from: usize, end: usize) -> &'a [u8]
-    ensures { placed result ≡ part_in (placed list.entry) from (end - from) }
+pub fn part_at(list: &[u8], shown: Span) -> &[u8]
+    ensures { placed result ≡ part_in (placed list.entry) shown.from (shown.end - shown.from) }
 {
-    part_in(list, from, end.saturating_sub(from))
+    part_in(list, shown.from, shown.end.saturating_sub(shown.from))
 }

@@ -43,14 +43,14 @@ impl Opening {
         } else {
             PAGE_RESERVED
         };
-        (first <= kind) & (kind <= RESERVED_TO)
+        (first..=RESERVED_TO).contains(&kind)
     }
 
     // Whether a descriptor's type is at least the least, and admitted.
     fn admits(self, least: usize, kind: usize) -> bool
         ensures { result ≡ (leb least kind && not (is_refused self.label self.strict kind)) }
     {
-        (least <= kind) & !(self.strict & self.reserves(kind))
+        least <= kind && !(self.strict && self.reserves(kind))
     }
 }
 

@@ -21,7 +21,7 @@ pub struct Opened<'a> {
 }
 
 // Opens a list.
-pub fn open_as<'a>(list: &'a [u8], opening: Opening) -> Result<Opened<'a>, Refusal>
+pub fn open_as(list: &[u8], opening: Opening) -> Result<Opened<'_>, Refusal>
     ensures { opened_says list.entry opening.label opening.strict result ≡ opened_of list.entry opening.label opening.strict }
 {
     let begun = begin_as(list, opening)?;
@@ -35,7 +35,7 @@ pub fn open_as<'a>(list: &'a [u8], opening: Opening) -> Result<Opened<'a>, Refus
 }
 
 // The same without a choice.
-pub fn open<'a>(list: &'a [u8], label: bool) -> Result<Opened<'a>, Refusal>
+pub fn open(list: &[u8], label: bool) -> Result<Opened<'_>, Refusal>
     ensures { opened_says list.entry label strict_by_default result ≡ opened_of list.entry label strict_by_default }
 {
     open_as(list, Opening::by_default(label))
@@ -43,12 +43,12 @@ pub fn open<'a>(list: &'a [u8], label: bool) -> Result<Opened<'a>, Refusal>
 
 // A step where the caller holds the reader: the descriptor is shown, and the place moves past it.
 // Where none is left (`Ok(None)`), and where the step is refused, the place stays as it was.
-pub fn next<'s, 'a>(r: &'s mut Reader<'a>) -> Result<Option<&'a [u8]>, Refusal>
+pub fn next<'a>(r: &mut Reader<'a>) -> Result<Option<&'a [u8]>, Refusal>
     ensures { next_of r.old ≡ (shown_says r.old result, r.new) }
 {
     let Some((shown, place)) = advance_at(r.list, r.place)? else {
         return Ok(None);
     };
     r.place = place;
-    Ok(Some(part_at(r.list, shown.from, shown.end)))
+    Ok(Some(part_at(r.list, shown)))
 }
