@@ -5,5 +5,6 @@ pub mod Within
 pub mod Ccm
 pub mod Gcm
 pub mod Modes
+pub mod Named
 pub mod Calls
 pub mod Laws

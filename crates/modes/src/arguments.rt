@@ -16,17 +16,11 @@ pub(crate) fn wrong_sizes(u: u8, key: &[u8], iv: &[u8]) -> bool
     (key.len() != KEY_SIZE) | (iv.len() != iv_size(u))
 }
 
-// Whether a maximum is passed: the two parts of the associated data together, or the text. No sum can wrap.
+// Whether a maximum is passed: the two parts of the associated data together, or the text. No sum of two lengths can wrap.
 fn too_long(a: &[u8], b: &[u8], text: &[u8]) -> bool
     ensures { result ≡ too_long a.now b.now text.now }
 {
-    if DATA_MAX < a.len() {
-        return true;
-    }
-    if DATA_MAX - a.len() < b.len() {
-        return true;
-    }
-    TEXT_MAX < text.len()
+    a.len() + b.len() > DATA_MAX || text.len() > TEXT_MAX
 }
 
 // The first that applies: `wrong` where a length is none of the mode's, `more` the bytes that the result has beside the text's, `room` the output's length.

@@ -6,12 +6,12 @@ ghost use Rattle.octets.specs.Lent.{answer};
 ghost use Rattle.aes.specs.Cipher.{cipher};
 ghost use Rattle.refusals.specs.Numbers.{outcome_number};
 ghost use Rattle.modes.specs.Calls.{data_max, tag_decides};
-ghost use Rattle.modes.specs.Within.{SealsWith, VerifiesWith, OpensWith};
 ghost use Rattle.modes.specs.Counter.{counter_block, front_of};
 ghost use Rattle.modes.specs.Ccm.{flags, data_blocks, chain_start, counter_front, ccm_tag_right, ccm_sealed, ccm_opened};
 
 use crate::cipher::Cipher;
 use crate::counter::{counter, counter_block};
+use crate::message::Message;
 use crate::passes::pass;
 use crate::short::open_short;
 use crate::sizes::SHORT;
@@ -49,19 +49,18 @@ fn first_block(base: Block, with_data: bool, n: usize) -> Block
     b
 }
 
-// The chain after the associated data, which is a and then b.
-fn chain_data(aes: Cipher, y: Block, a: &[u8], b: &[u8]) -> Block
-    requires { (length a.now + length b.now ≤ data_max) }
-    ensures { result ≡ chain (cipher aes.entry.keyed.keys.now) y (data_blocks (a.now ++ b.now)) }
+// The chain after the associated data.
+fn chain_data(aes: Cipher, y: Block, m: Message) -> Block
+    ensures { result ≡ chain (cipher aes.entry.keyed.keys.now) y (data_blocks (m.entry.a.now ++ m.entry.b.now)) }
 {
-    let n = a.len() + b.len();
+    let n = m.a.len() + m.b.len();
     if n == 0 {
         return y;
     }
     let size = bytes16(n);
     let x = absorb(aes.keyed, 0, y, &size);
-    let u = absorb(aes.keyed, 2, x, a);
-    let v = absorb(aes.keyed, 2 + a.len(), u, b);
+    let u = absorb(aes.keyed, 2, x, m.a);
+    let v = absorb(aes.keyed, 2 + m.a.len(), u, m.b);
     close(aes.keyed, 2 + n, v)
 }
 
@@ -72,84 +71,61 @@ struct Begun {
     pad: Block,
 }
 
-// The chain up to the payload, of n bytes. The first block is ciphered beside counter block 0.
-fn chain_start(aes: Cipher, base: Block, a: &[u8], b: &[u8], n: usize) -> Begun
-    requires { (length a.now + length b.now ≤ data_max) }
-    ensures chain_value { result.chain ≡ chain_start (cipher aes.entry.keyed.keys.now) (drop 1 (front_of false base)) (a.now ++ b.now) n }
+// The chain up to the payload. The first block is ciphered beside counter block 0.
+fn chain_start(aes: Cipher, base: Block, m: Message) -> Begun
+    ensures chain_value { result.chain ≡ chain_start (cipher aes.entry.keyed.keys.now) (drop 1 (front_of false base)) (m.entry.a.now ++ m.entry.b.now) (length m.entry.text.now) }
     ensures pad_value { result.pad ≡ cipher aes.entry.keyed.keys.now (counter_block 3 (front_of false base) 0) }
 {
-    let with_data = a.len() + b.len() != 0;
-    let first = first_block(base, with_data, n);
+    let with_data = m.a.len() + m.b.len() != 0;
+    let first = first_block(base, with_data, m.text.len());
     let both = aes.encrypt_two(first, counter_block(base, false, 0));
-    let chain = chain_data(aes, Block::from(both.one), a, b);
+    let chain = chain_data(aes, Block::from(both.one), m);
     let pad = Block::from(both.other);
     Begun { chain, pad }
 }
 
-pub(crate) fn seal(
-    aes: Cipher,
-    iv: &[u8],
-    a: &[u8],
-    b: &[u8],
-    p: &[u8],
-    out: &mut [u8],
-) -> Result<(), Refusal>
-    requires { SealsWith iv.now a.now b.now p.now (length out.old) }
-    ensures { answer 0 (ccm_sealed (cipher aes.entry.keyed.keys.now) iv.now (a.now ++ b.now) p.now) out.old ≡ (outcome_number result, out.new) }
+pub(crate) fn seal(aes: Cipher, m: Message, out: &mut [u8]) -> Result<(), Refusal>
+    requires { length m.text.now + 16 ≤ length out.old }
+    ensures { answer 0 (ccm_sealed (cipher aes.entry.keyed.keys.now) m.entry.iv.now (m.entry.a.now ++ m.entry.b.now) m.entry.text.now) out.old ≡ (outcome_number result, out.new) }
 {
-    let n = p.len();
-    let base = base_of(iv);
-    let begun = chain_start(aes, base, a, b, n);
+    let n = m.text.len();
+    let base = base_of(m.iv);
+    let begun = chain_start(aes, base, m);
     let y = begun.chain;
     let pad = begun.pad;
-    let z = pass(aes, base, y, p, out, false, true);
+    let z = pass(aes, base, y, m.text, out, false, true);
     let tag = xor_blocks(z, pad);
     put(&mut out[n..], &tag);
     Ok(())
 }
 
 // Refused where the tag is wrong. The pass is lent an output of no bytes: a plaintext that is not authentic has nowhere to go.
-pub(crate) fn verify(
-    aes: Cipher,
-    iv: &[u8],
-    a: &[u8],
-    b: &[u8],
-    c: &[u8],
-    tag: &[u8],
-) -> Result<(), Refusal>
-    requires { VerifiesWith iv.now a.now b.now c.now tag.now }
-    ensures { outcome_number result ≡ tag_decides (ccm_tag_right (cipher aes.entry.keyed.keys.now) iv.now (a.now ++ b.now) c.now tag.now) }
+pub(crate) fn verify(aes: Cipher, m: Message, tag: &[u8]) -> Result<(), Refusal>
+    requires { length tag.now ≡ 16 }
+    ensures { outcome_number result ≡ tag_decides (ccm_tag_right (cipher aes.entry.keyed.keys.now) m.entry.iv.now (m.entry.a.now ++ m.entry.b.now) m.entry.text.now tag.now) }
 {
-    let base = base_of(iv);
-    let begun = chain_start(aes, base, a, b, c.len());
+    let base = base_of(m.iv);
+    let begun = chain_start(aes, base, m);
     let y = begun.chain;
     let pad = begun.pad;
     let mut none = [0u8; 0];
-    let z = pass(aes, base, y, c, &mut none, true, false);
+    let z = pass(aes, base, y, m.text, &mut none, true, false);
     let right = xor_blocks(z, pad);
     check_tag(tag, &right)
 }
 
 // The plaintext, where the tag is right.
-pub(crate) fn open(
-    aes: Cipher,
-    iv: &[u8],
-    a: &[u8],
-    b: &[u8],
-    c: &[u8],
-    tag: &[u8],
-    out: &mut [u8],
-) -> Result<(), Refusal>
-    requires { OpensWith iv.now a.now b.now c.now tag.now (length out.old) }
-    ensures { ccm_opened (cipher aes.entry.keyed.keys.now) iv.now (a.now ++ b.now) c.now tag.now out.old ≡ (outcome_number result, out.new) }
+pub(crate) fn open(aes: Cipher, m: Message, tag: &[u8], out: &mut [u8]) -> Result<(), Refusal>
+    requires { (length tag.now ≡ 16) × (length m.text.now ≤ length out.old) }
+    ensures { ccm_opened (cipher aes.entry.keyed.keys.now) m.entry.iv.now (m.entry.a.now ++ m.entry.b.now) m.entry.text.now tag.now out.old ≡ (outcome_number result, out.new) }
 {
-    if c.len() <= SHORT {
-        let base = base_of(iv);
-        let begun = chain_start(aes, base, a, b, c.len());
+    if m.text.len() <= SHORT {
+        let base = base_of(m.iv);
+        let begun = chain_start(aes, base, m);
         let y = begun.chain;
         let pad = begun.pad;
-        return open_short(aes, base, y, pad, c, tag, out);
+        return open_short(aes, base, y, pad, m.text, tag, out);
     }
-    verify(aes, iv, a, b, c, tag)?;
-    counter(aes, base_of(iv), false, 1, c, out)
+    verify(aes, m, tag)?;
+    counter(aes, base_of(m.iv), false, 1, m.text, out)
 }

@@ -9,7 +9,6 @@ ghost use Rattle.modes.specs.Pads.{Serves};
 ghost use Rattle.modes.specs.Counter.{counter_block, ctr, with_pad, counter_fits, counter_answer, width, front_of};
 
 use crate::cipher::Cipher;
-use aes_fast::Keyed;
 use aes_fast::halves::{Halves, add_halves, halves_at, put_halves};
 use aes_fast::start::Start;
 use octets::strings::{Block, put};
@@ -134,12 +133,7 @@ fn add_pairs(aes: Cipher, base: Block, wide: bool, i: usize, text: &[u8], out: &
     let mut k = i;
     // The round keys by value, in this function's own frame: docs/DECISIONS.md.
     let keys = *aes.keyed.keys;
-    let own = Cipher {
-        keyed: Keyed {
-            tables: aes.keyed.tables,
-            keys: &keys,
-        },
-    };
+    let own = Cipher::of(aes.keyed.tables, &keys);
     let mut s = start_at(own, base, wide, i);
     while 32 <= n - at {
         let next = at + 16;

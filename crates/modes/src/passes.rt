@@ -11,7 +11,6 @@ ghost use Rattle.modes.specs.Counter.{ctr, with_pad, plain_block, shown_text, fr
 
 use crate::cipher::Cipher;
 use crate::counter::{renewed, start_at, summed};
-use aes_fast::Keyed;
 use aes_fast::halves::{Both, Halves, add_halves, halves_at, put_halves};
 use aes_fast::start::Start;
 use octets::strings::{Block, first16, put, xor_blocks};
@@ -127,12 +126,7 @@ pub(crate) fn pass(
     let mut k = 1;
     // The round keys by value, in this function's own frame: docs/DECISIONS.md.
     let keys = *aes.keyed.keys;
-    let own = Cipher {
-        keyed: Keyed {
-            tables: aes.keyed.tables,
-            keys: &keys,
-        },
-    };
+    let own = Cipher::of(aes.keyed.tables, &keys);
     let mut s = start_at(own, base, false, 1);
     let mut pad = own.keyed.encrypt_from(s, 1);
     while 16 < n - at {

@@ -1,9 +1,13 @@
 -- `modes::decrypt` meets its contract: what the arguments are refused for, or what the tag decides.
 -- Assumes nothing.
-use mathlib.Core.Path.{◌∙◌}
+use mathlib.Core.Path.{sym, ◌∙◌}
+use lib.ListN.{length}
 use Rattle.std.proofs.lemmas.Result.{err_from_is_err_and}
 use Rattle.modes.specs.Modes.{mode_of}
+use Rattle.modes.specs.Calls.{Openable}
 use Rattle.modes.proofs.Numbers.{decrypt-refused, decrypt-done}
+use Rattle.modes.proofs.Named.{decrypt_passed}
+use Rattle.modes.proofs.decrypt.Goals.{In_ok-check_decryption}
 use Rattle.modes.proofs.decrypt.Goals as goal
 
 pub returns-in_err-check_decryption : goal.returns-in_err-check_decryption
@@ -12,7 +16,16 @@ returns-in_err-check_decryption c =
     let p = err_from_is_err_and c.from_residual.result c.from_residual.ensures.1 in
     rw (p.1, p.2) (decrypt-refused (mode_of a.u) a.key.now a.iv.now a.a.now a.b.now a.c.now a.tag.now a.out.now _ c.in_err-check_decryption.ensures)
 
+passed : (c : In_ok-check_decryption) → (let a = c.args in Openable a.key.now a.iv.now a.a.now a.b.now a.c.now a.tag.now (length a.out.now))
+passed c =
+    let a = c.args in
+    decrypt_passed a.u a.key.now a.iv.now a.a.now a.b.now a.c.now (length a.out.now) a.tag.now (sym c.in_ok-check_decryption.ensures)
+
+pub round_keys-keys-requires : goal.round_keys-keys-requires
+round_keys-keys-requires c = (passed (goal.at.round_keys-keys-requires c).In_ok-check_decryption).0.0
+
 pub returns : goal.returns
 returns c =
     let a = c.args in
-    decrypt-done (mode_of a.u) a.key.now a.iv.now a.a.now a.b.now a.c.now a.tag.now a.out.now c.in_ok-check_decryption.ensures ∙ c.open.ensures
+    decrypt-done (mode_of a.u) a.key.now a.iv.now a.a.now a.b.now a.c.now a.tag.now a.out.now c.in_ok-check_decryption.ensures
+    ∙ rw c.from.ensures at (c.open.ensures a.key.now (c.of.ensures.1 ∙ c.round_keys-keys.ensures.value))

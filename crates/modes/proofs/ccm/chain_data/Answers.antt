@@ -8,12 +8,12 @@ use Rattle.modes.proofs.ccm.chain_data.Goals as goal
 pub returns-then-n-eq0 : goal.returns-then-n-eq0
 returns-then-n-eq0 c =
     let a = c.args in
-    data-none (cipher a.aes.keyed.keys.now) a.y a.a.now a.b.now c.if-n-eq0.true
+    data-none (cipher a.aes.keyed.keys.now) a.y a.m.a.now a.m.b.now c.if-n-eq0.true
 
 pub returns : goal.returns
 returns c =
     let a = c.args in
     let ready = a.aes.ready in
-    data_steps (cipher a.aes.keyed.keys.now) (cipher-length a.aes.keyed.keys.now) a.y a.a.now a.b.now _ _ _ _ _ c.well_formed.1.0.1.0.1 c.if-n-eq0.false
+    data_steps (cipher a.aes.keyed.keys.now) (cipher-length a.aes.keyed.keys.now) a.y a.m.a.now a.m.b.now _ _ _ _ _ c.well_formed.1.0.1.0.1 c.if-n-eq0.false
     c.bytes16-size.ensures (c.absorb-x.ensures.by-cipher ready) (c.absorb-u.ensures.by-cipher ready)
     (c.absorb-v.ensures.by-cipher ready) (c.close.ensures.by-cipher ready)

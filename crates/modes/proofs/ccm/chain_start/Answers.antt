@@ -4,7 +4,7 @@ use mathlib.Core.Path.{ap, ◌∙◌}
 use mathlib.Core.Bool.{false}
 use mathlib.Core.List.{List, ◌++◌}
 use Prim.Native.Nat.{ℕ}
-use lib.ListN.{drop}
+use lib.ListN.{length, drop}
 use Rattle.octets.specs.Blocks.{chain}
 use Rattle.aes.specs.Cipher.{cipher}
 use Rattle.modes.specs.Counter.{front_of}
@@ -17,7 +17,7 @@ returns-clause-chain_value c =
     let a = c.args in
     let F = cipher a.aes.keyed.keys.now in
     c.chain_data-chain.ensures
-    ∙ ap (λ (y : List ℕ). chain F y (data_blocks (a.a.now ++ a.b.now)))
+    ∙ ap (λ (y : List ℕ). chain F y (data_blocks (a.m.a.now ++ a.m.b.now)))
     (c.from.ensures
     ∙ c.encrypt_two-both.ensures.0
-    ∙ ap F (c.first_block-first.ensures ∙ first_block-parts (drop 1 (front_of false a.base)) a.a.now a.b.now a.n))
+    ∙ ap F (c.first_block-first.ensures ∙ first_block-parts (drop 1 (front_of false a.base)) a.m.a.now a.m.b.now (length a.m.text.now)))

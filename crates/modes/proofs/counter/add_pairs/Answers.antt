@@ -18,23 +18,23 @@ use Rattle.modes.proofs.counter.add_pairs.Goals as goal
 -- after the first block of a pair
 first : (c : After-add_at)
     → (let a = c.args in
-    Partly (cipher a.aes.keyed.keys.now) (width a.wide) (front_of a.wide a.base) a.i a.text.now a.out.now (c.loop-at.at + 16) (c.loop-at.k + 1) c.add_at.new.out)
+    Partly (cipher c.of-own.result.keyed.keys.now) (width a.wide) (front_of a.wide a.base) a.i a.text.now a.out.now (c.loop-at.at + 16) (c.loop-at.k + 1) c.add_at.new.out)
 first c =
     let a = c.args in
     let l = c.loop-at in
-    let pad : halves_block c.encrypt_two_from-pads.result.one ≡ cipher_from a.aes.keyed.tables.now a.aes.keyed.keys.now l.s (l.k % 256) = c.encrypt_two_from-pads.ensures.0 in
-    partly_block l.invariant.2 (omega (arith, c.requires.0)) (cipher-length a.aes.keyed.keys.now) (pair_within l.at (length a.text.now) c.loop-at-test.true).0
+    let pad : halves_block c.encrypt_two_from-pads.result.one ≡ cipher_from c.of-own.result.keyed.tables.now c.of-own.result.keyed.keys.now l.s (l.k % 256) = c.encrypt_two_from-pads.ensures.0 in
+    partly_block l.invariant.2 (omega (arith, c.requires.0)) (cipher-length c.of-own.result.keyed.keys.now) (pair_within l.at (length a.text.now) c.loop-at-test.true).0
     (pad ∙ l.invariant.1.pads l.k refl) c.add_at.ensures
 
 -- after the second block
 second : (c : After-add_at-in-loop-at)
     → (let a = c.args in
-    Partly (cipher a.aes.keyed.keys.now) (width a.wide) (front_of a.wide a.base) a.i a.text.now a.out.now (c.loop-at.at + 16 + 16) (c.loop-at.k + 1 + 1)
+    Partly (cipher c.of-own.result.keyed.keys.now) (width a.wide) (front_of a.wide a.base) a.i a.text.now a.out.now (c.loop-at.at + 16 + 16) (c.loop-at.k + 1 + 1)
     c.add_at-in-loop-at.new.out)
 second c =
     let a = c.args in
     let l = c.loop-at in
-    partly_block (first (goal.at.After-add_at-in-loop-at c).After-add_at) (omega (arith, c.requires.0)) (cipher-length a.aes.keyed.keys.now)
+    partly_block (first (goal.at.After-add_at-in-loop-at c).After-add_at) (omega (arith, c.requires.0)) (cipher-length c.of-own.result.keyed.keys.now)
     (pair_within l.at (length a.text.now) c.loop-at-test.true).1
     (c.encrypt_two_from-pads.ensures.1 ∙ l.invariant.1.pads (l.k + 1) (pair_same l.k l.invariant.0)) c.add_at-in-loop-at.ensures
 

@@ -11,6 +11,6 @@ use Rattle.modes.proofs.gcm.open.Goals as goal
 pub returns : goal.returns
 returns c =
     let a = c.args in
-    answer_passed (gcm_text (cipher a.aes.keyed.keys.now) a.iv.now a.c.now) a.out.now c.in_ok-verify.ensures
-    (text-written (cipher a.aes.keyed.keys.now) (cipher-length a.aes.keyed.keys.now) a.iv.now (a.a.now ++ a.b.now) c.requires.0.0 c.base_of.ensures
-    a.c.now a.out.now c.requires.0.2 c.counter.ensures)
+    answer_passed (gcm_text (cipher a.aes.keyed.keys.now) a.m.iv.now a.m.text.now) a.out.now c.in_ok-verify.ensures
+    (text-written (cipher a.aes.keyed.keys.now) (cipher-length a.aes.keyed.keys.now) a.m.iv.now (a.m.a.now ++ a.m.b.now) a.m.iv_size c.base_of.ensures
+    a.m.text.now a.out.now a.m.text_fits c.counter.ensures)

@@ -9,10 +9,10 @@ use Rattle.modes.proofs.gcm.seal.Goals as goal
 pub returns-in_err-counter : goal.returns-in_err-counter
 returns-in_err-counter c =
     let a = c.args in
-    absurd (text-unrefused (cipher a.aes.keyed.keys.now) (cipher-length a.aes.keyed.keys.now) a.iv.now (a.a.now ++ a.b.now) c.requires.0 c.base_of-base.ensures a.p.now a.out.now _ c.requires.2 c.in_err-counter.ensures)
+    absurd (text-unrefused (cipher a.aes.keyed.keys.now) (cipher-length a.aes.keyed.keys.now) a.m.iv.now (a.m.a.now ++ a.m.b.now) a.m.iv_size c.base_of.ensures a.m.text.now a.out.now _ a.m.text_fits c.in_err-counter.ensures)
 
 pub returns : goal.returns
 returns c =
     let a = c.args in
-    sealed_steps (cipher a.aes.keyed.keys.now) (cipher-length a.aes.keyed.keys.now) a.iv.now (a.a.now ++ a.b.now) c.requires.0 c.base_of-base.ensures
-    a.p.now a.out.now c.requires.2 c.requires.3 c.in_ok-counter.ensures c.tag_of-tag.ensures c.put.ensures
+    sealed_steps (cipher a.aes.keyed.keys.now) (cipher-length a.aes.keyed.keys.now) a.m.iv.now (a.m.a.now ++ a.m.b.now) a.m.iv_size c.base_of.ensures
+    a.m.text.now a.out.now a.m.text_fits c.requires c.in_ok-counter.ensures c.tag_of-tag.ensures c.put.ensures

@@ -2,12 +2,10 @@
 -- Assumes nothing.
 use mathlib.Core.List.{◌++◌}
 use Rattle.aes.specs.Cipher.{cipher}
-use Rattle.aes.proofs.Laws.{cipher-length}
 use Rattle.modes.proofs.GcmTagged.{opened-number}
 use Rattle.modes.proofs.gcm.verify.Goals as goal
 
 pub returns : goal.returns
 returns c =
     let a = c.args in
-    opened-number (cipher a.aes.keyed.keys.now) (cipher-length a.aes.keyed.keys.now) a.iv.now (a.a.now ++ a.b.now) c.requires.0 c.base_of.ensures
-    a.c.now a.tag.now c.tag_of-right.ensures c.check_tag.ensures
+    opened-number (cipher a.aes.keyed.keys.now) a.m.iv.now (a.m.a.now ++ a.m.b.now) a.m.text.now a.tag.now c.tag_of-right.ensures c.check_tag.ensures
