@@ -34,7 +34,7 @@ use Rattle.modes.proofs.Gctr.{gctr_block, length-gctr, gctr-gctr, bytes-gctr, gc
 pub base_stored : (iv : List ℕ) → length iv ≡ 12 → over iv (replicate 16 0) ≡ iv ++ be 4 0
 base_stored iv size = over_fits iv (replicate 16 0) (omega arith) ∙ ap (λ (n : ℕ). iv ++ drop n (replicate 16 0)) size
 
-pub front_base : (iv : List ℕ) → length iv ≡ 12 → front_of true (iv ++ be 4 0) ≡ iv
+front_base : (iv : List ℕ) → length iv ≡ 12 → front_of true (iv ++ be 4 0) ≡ iv
 front_base iv size = take_at iv (be 4 0) 12 size
 
 -- a number that w bytes hold, in v bytes more
@@ -112,7 +112,7 @@ module _ (f : List ℕ → List ℕ) (size : (x : List ℕ) → length (f x) ≡
 
   -- the ciphertext over the front of the output, and its tag after it
   pub sealed_steps : (p out : List ℕ) {tag out₁ ys : List ℕ} → length p ≤ text_max → length p + 16 ≤ length out
-      → counter_answer f 4 (front_of true base) 2 p out ≡ (0, out₁) → tag ≡ gcm_tag f iv a (take (length p) out₁)
+      → counter_answer f 4 (front_of true base) 2 p out ≡ (0, out₁) → tag ≡ gcm_tag f (front_of true base) a (take (length p) out₁)
       → ys ≡ over tag (take (length out₁ - length p) (drop (length p) out₁))
       → answer 0 (gcm_text f iv p ++ gcm_tag f iv a (gcm_text f iv p)) out ≡ (0, take (length p) out₁ ++ (ys ++ drop (length out₁ - length p) (drop (length p) out₁)))
   sealed_steps p out {tag} {out₁} {ys} short fits ran et es =
@@ -126,10 +126,10 @@ module _ (f : List ℕ → List ℕ) (size : (x : List ℕ) → length (f x) ≡
       first = sym (ap (λ (x : ℕ × List ℕ). x.1) (text-written p out short ran))
 
       tagged : tag ≡ gcm_tag f iv a (gcm_text f iv p)
-      tagged = et ∙ ap (gcm_tag f iv a) (over_front (gcm_text f iv p) out out₁ (length p) (length-gcm_text f size iv p) (omega arith) first)
+      tagged = et ∙ ap₂ (λ (v c : List ℕ). gcm_tag f v a c) front_is (over_front (gcm_text f iv p) out out₁ (length p) (length-gcm_text f size iv p) (omega arith) first)
 
--- the tag of the ciphertext decides
-pub opened-number : (f : List ℕ → List ℕ) (iv a c t : List ℕ) {right : List ℕ} {n : ℕ} → right ≡ gcm_tag f iv a c → n ≡ lowest (authentic_tests (same t right))
-    → n ≡ lowest (authentic_tests (gcm_tag_right f iv a c t))
-unfolding gcm_tag_right
-opened-number f iv a c t er en = en ∙ ap (λ (r : List ℕ). lowest (authentic_tests (same t r))) er
+  -- the tag of the ciphertext decides
+  pub opened-number : (c t : List ℕ) {right : List ℕ} {n : ℕ} → right ≡ gcm_tag f (front_of true base) a c → n ≡ lowest (authentic_tests (same t right))
+      → n ≡ lowest (authentic_tests (gcm_tag_right f iv a c t))
+  unfolding gcm_tag_right
+  opened-number c t er en = en ∙ ap (λ (r : List ℕ). lowest (authentic_tests (same t r))) (er ∙ ap (λ (v : List ℕ). gcm_tag f v a c) front_is)

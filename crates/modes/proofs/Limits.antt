@@ -2,43 +2,39 @@
 -- Assumes nothing.
 use mathlib.Core.Path.{◌≡◌, refl, ap, ap₂, ◌∙◌}
 use mathlib.Core.Bool.{Bool, true, false, not}
-use mathlib.Core.List.{List, [], ◌∷◌, ◌++◌, append-nil}
-use Prim.Native.Nat.{ℕ, ◌+◌, ◌-◌, ◌*◌, ◌/◌, ◌%◌, ◌^◌, ◌≤◌, ◌<◌, min}
-use native.Mathlib.Nat.{div-one}
+use mathlib.Core.List.{List, ◌++◌, append-nil}
+use Prim.Native.Nat.{ℕ, zero, suc, ◌+◌, ◌-◌, ◌*◌, ◌/◌, ◌%◌, ◌^◌, ◌≤◌, ◌<◌, min}
 use native.Mathlib.Omega.{arith}
 use borrow.Author.Tests.{leb-true, leb-false, lt-ltb, le-ltb, le-leb}
-use lib.Dec.{ltb, leb, lit≤}
-use lib.ListN.{length, set, take, drop, length-set, drop_of_length-le}
-use lib.Seq.{sets-eq, set_split, take-set-le, drop_at, length-take-le}
+use lib.Dec.{ltb, leb, lit<}
+use lib.ListN.{length, take, drop, length-drop, drop_of_length-le}
+use Rattle.std.proofs.Math.Nat.{pow-le-pow_right}
+use lib.Seq.{take_all}
+use Rattle.octets.specs.BigEndian.{be}
+use Rattle.octets.proofs.BigEndian.{length-be}
 use Rattle.octets.specs.Blocks.{blocks}
 use Rattle.octets.specs.Lent.{over}
-use Rattle.modes.specs.Counter.{counter_block, ctr, counter_fits, counter_number, counter_answer, width, front_of}
+use Rattle.modes.specs.Counter.{counter_block, ctr, counter_fits, counter_number, counter_answer}
 use Rattle.modes.specs.Calls.{data_max, text_max, too_long}
 
--- ---- the counter block, byte by byte
+-- ---- the counter block: the last w bytes of a number in eight, over the last w of a block
 
-module _ (base : List ℕ) (i : ℕ) (size : length base ≡ 16) where
-  abbrev low_stored : List ℕ
-  low_stored = set (set (set base 13 (i / 65536 % 256)) 14 (i / 256 % 256)) 15 (i % 256)
+be_tail : (k w m n : ℕ) → m ≡ k + w → drop k (be m n) ≡ be w n
+be_tail zero w m n e = ap (λ (m : ℕ). be m n) (omega (arith, e))
+be_tail (suc k) w zero n e = absurd (omega arith)
+be_tail (suc k) w (suc m) n e = be_tail k w m n (omega arith)
 
-  narrow_stored : low_stored ≡ take 13 base ++ (i / 65536 % 256 ∷ i / 256 % 256 ∷ i % 256 ∷ [])
-  narrow_stored =
-      sets-eq (i / 65536 % 256 ∷ i / 256 % 256 ∷ i % 256 ∷ []) base 13 (omega arith)
-      ∙ ap (λ (l : List ℕ). take 13 base ++ (i / 65536 % 256 ∷ i / 256 % 256 ∷ i % 256 ∷ []) ++ l) (drop_of_length-le base {i = 16} (omega arith))
-      ∙ append-nil (take 13 base ++ (i / 65536 % 256 ∷ i / 256 % 256 ∷ i % 256 ∷ []))
-
-  pub narrow_block : low_stored ≡ counter_block (width false) (front_of false base) i
-  narrow_block = rw (div-one i) narrow_stored
-
-  pub wide_block : set low_stored 12 (i / 16777216 % 256) ≡ counter_block (width true) (front_of true base) i
-  wide_block =
-      rw (div-one i)
-      (set_split low_stored 12 (i / 16777216 % 256) (simp length-set (omega arith))
-      ∙ ap₂ (λ (a b : List ℕ). a ++ i / 16777216 % 256 ∷ b)
-      (take-set-le 12 (set (set base 13 (i / 65536 % 256)) 14 (i / 256 % 256)) 15 (i % 256) (lit≤ tt)
-      ∙ take-set-le 12 (set base 13 (i / 65536 % 256)) 14 (i / 256 % 256) (lit≤ tt)
-      ∙ take-set-le 12 base 13 (i / 65536 % 256) (lit≤ tt))
-      (ap (drop 13) narrow_stored ∙ drop_at (take 13 base) (i / 65536 % 256 ∷ i / 256 % 256 ∷ i % 256 ∷ []) 13 (length-take-le 13 base (omega arith))))
+module _ (w : ℕ) (base : List ℕ) (i : ℕ) (short : w < 8) (size : length base ≡ 16) where
+  pub field_stored : {ys : List ℕ} → ys ≡ take (8 - (8 - w)) (drop (8 - w) (be 8 i))
+      → take (16 - w) base ++ (ys ++ drop (16 - (16 - w)) (drop (16 - w) base)) ≡ counter_block w (take (16 - w) base) i
+  field_stored {ys} e =
+      ap (λ (l : List ℕ). take (16 - w) base ++ l)
+      (ap₂ (λ (a b : List ℕ). a ++ b) (e ∙ ap (take (8 - (8 - w))) low ∙ take_all (8 - (8 - w)) (be w i) (omega (arith, length-be w i)))
+      (drop_of_length-le (drop (16 - w) base) {i = 16 - (16 - w)} (omega (arith, length-drop (16 - w) base)))
+      ∙ append-nil (be w i))
+    where
+      low : drop (8 - w) (be 8 i) ≡ be w i
+      low = be_tail (8 - w) w 8 i (omega arith)
 
 -- ---- blocks that are left from place `at` on, and pairs of counters
 
@@ -54,7 +50,7 @@ module _ (k : ℕ) (even : k % 2 ≡ 0) where
   pair_same = omega arith
 
 -- a first part of b bytes, or all n that there are
-module _ (b n : ℕ) {h : ℕ} (is : h ≡ min b n) where
+module _ (b n : ℕ) {h : ℕ} (is : h ≡ min n b) where
   pub least_inside : h ≤ n
   least_inside = omega arith
 
@@ -96,11 +92,15 @@ ltb-leb a b = go (leb b a) refl
     go false e = lt-ltb a b (leb-false b a e)
 
 -- the counters run over exactly where the last is past the limit
-pub counter_fits_past : (w i n : ℕ) → ltb (256 ^ w) (i + (n / 16 + (n % 16 + 15) / 16)) ≡ not (counter_fits w i n)
-counter_fits_past w i n = ap (ltb (256 ^ w)) last ∙ ltb-leb (256 ^ w) (i + blocks n)
+pub counter_fits_past : (w i n : ℕ) {limit more : ℕ} → limit ≡ 256 ^ w → more ≡ n / 16 + min 1 (n % 16) → ltb limit (i + more) ≡ not (counter_fits w i n)
+counter_fits_past w i n {more = more} el em = ap₂ ltb el last ∙ ltb-leb (256 ^ w) (i + blocks n)
   where
-    last : i + (n / 16 + (n % 16 + 15) / 16) ≡ i + blocks n
+    last : i + more ≡ i + blocks n
     last = omega arith
+
+-- and the limit of a field of less than eight bytes is a number of 64 bits
+pub limit_fits : (w : ℕ) → w < 8 → 256 ^ w < 18446744073709551616
+limit_fits w h = let le : 256 ^ w ≤ 256 ^ 7 = pow-le-pow_right {n = 256} (lit< tt) {i = w} {j = 7} (omega arith) in omega arith
 
 -- ---- counter_fits: what fits, and the answer then
 

@@ -1,9 +1,8 @@
 -- Counter blocks that differ in the last byte alone: one start gives all their pads.
 -- Assumes nothing.
 use mathlib.Core.Path.{◌≡◌, sym, ap, ◌∙◌}
-use mathlib.Core.Bool.{Bool, true, false}
 use mathlib.Core.List.{List, [], ◌∷◌, ◌++◌, append_assoc}
-use Prim.Native.Nat.{ℕ, suc, ◌+◌, ◌/◌, ◌%◌}
+use Prim.Native.Nat.{ℕ, zero, suc, ◌+◌, ◌-◌, ◌<◌, ◌/◌, ◌%◌}
 use native.Mathlib.Nat.{mod-lt}
 use native.Mathlib.Omega.{arith}
 use lib.Dec.{lit<}
@@ -19,7 +18,7 @@ use Rattle.aes_fast.specs.Right.{Ready}
 use Rattle.aes_fast.specs.Start.{with_last, start_by, cipher_from}
 use Rattle.aes_fast.specs.declared.start.Start.{Start}
 use Rattle.aes_fast.proofs.Laws.{from_start}
-use Rattle.modes.specs.Counter.{counter_block, width, front_of}
+use Rattle.modes.specs.Counter.{counter_block}
 use Rattle.modes.specs.Pads.{Serves}
 
 -- ---- the last byte of a counter block
@@ -34,23 +33,24 @@ block_last w front j k size same =
     ∙ sym (take_at (front ++ be w (k / 256)) (k % 256 ∷ []) 15 (length-append front (be w (k / 256)) ∙ ap (λ (n : ℕ). length front + n) (length-be w (k / 256)) ∙ size))
     ∙ ap (take 15) (append_assoc front (be w (k / 256)) (k % 256 ∷ []) ∙ sym (ap (λ (l : List ℕ). front ++ l) (be_last w k))))
 
-pub counter_block_last : (wide : Bool) (base : List ℕ) (j k : ℕ) → length base ≡ 16 → j / 256 ≡ k / 256
-    → counter_block (width wide) (front_of wide base) j ≡ with_last (counter_block (width wide) (front_of wide base) k) (j % 256)
-counter_block_last true base j k size same = block_last 3 (take 12 base) j k (omega (arith, length-take-le 12 base (omega arith))) same
-counter_block_last false base j k size same = block_last 2 (take 13 base) j k (omega (arith, length-take-le 13 base (omega arith))) same
+counter_block_last : (w : ℕ) (base : List ℕ) (j k : ℕ) → 0 < w → w < 8 → length base ≡ 16 → j / 256 ≡ k / 256
+    → counter_block w (take (16 - w) base) j ≡ with_last (counter_block w (take (16 - w) base) k) (j % 256)
+counter_block_last zero base j k some short size same = absurd (omega arith)
+counter_block_last (suc w) base j k some short size same =
+    block_last w (take (16 - suc w) base) j k (omega (arith, length-take-le (16 - suc w) base (omega arith))) same
 
 -- ---- a start
 
 module _ {t : Tables} {ks : List State} where
-  pub start_serves : Ready t ks → (wide : Bool) (base b : List ℕ) (s : Start) (k : ℕ) → length base ≡ 16 → Bytes b → length b ≡ 16
-      → b ≡ counter_block (width wide) (front_of wide base) k → s ≡ start_by t ks b → Serves t ks (width wide) (front_of wide base) s k
-  start_serves ready wide base b s k size bytes long eb es =
+  pub start_serves : Ready t ks → (w : ℕ) (base b : List ℕ) (s : Start) (k : ℕ) → 0 < w → w < 8 → length base ≡ 16 → Bytes b → length b ≡ 16
+      → b ≡ counter_block w (take (16 - w) base) k → s ≡ start_by t ks b → Serves t ks w (take (16 - w) base) s k
+  start_serves ready w base b s k some short size bytes long eb es =
       record {
         pads =
             λ j same.
             ap (λ (s : Start). cipher_from t ks s (j % 256)) es
             ∙ from_start t ks b (j % 256) ready bytes long (mod-lt j (lit< tt))
-            ∙ ap (cipher ks) (ap (λ (l : List ℕ). with_last l (j % 256)) eb ∙ sym (counter_block_last wide base j k size same));
+            ∙ ap (cipher ks) (ap (λ (l : List ℕ). with_last l (j % 256)) eb ∙ sym (counter_block_last w base j k some short size same));
       }
 
   module _ {w : ℕ} {front : List ℕ} {s : Start} {k : ℕ} (serves : Serves t ks w front s k) where

@@ -5,16 +5,16 @@ ghost use Rattle.octets.specs.Blocks.{cut, chain};
 ghost use Rattle.octets.specs.Lent.{answer};
 ghost use Rattle.aes.specs.Cipher.{cipher};
 ghost use Rattle.refusals.specs.Numbers.{outcome_number};
-ghost use Rattle.modes.specs.Calls.{data_max, tag_decides};
+ghost use Rattle.modes.specs.Calls.{tag_decides};
 ghost use Rattle.modes.specs.Counter.{counter_block, front_of};
 ghost use Rattle.modes.specs.Ccm.{flags, data_blocks, chain_start, counter_front, ccm_tag_right, ccm_sealed, ccm_opened};
 
 use crate::cipher::Cipher;
-use crate::counter::{counter, counter_block};
+use crate::counter::KeyStream;
 use crate::message::Message;
 use crate::passes::pass;
 use crate::short::open_short;
-use crate::sizes::SHORT;
+use crate::sizes::{IV_SIZE, SHORT};
 use crate::tag::check_tag;
 use cbc_mac::{absorb, close};
 use octets::big_endian::bytes16;
@@ -33,18 +33,17 @@ fn base_of(iv: &[u8]) -> Block
     requires { length iv.now ≡ 12 }
     ensures { result ≡ counter_front iv.now ++ be 3 0 }
 {
-    let start = 1;
-    let mut b = [0u8; 16];
+    let mut b = [0; 16];
     b[0] = 2;
-    put(&mut b[start..], iv);
+    b[1..=IV_SIZE].copy_from_slice(&iv[..IV_SIZE]);
     b
 }
 
 // B0: the flags, the nonce, and the length of the payload in three bytes, where counter blocks have the counter.
-fn first_block(base: Block, with_data: bool, n: usize) -> Block
-    ensures { result ≡ flags with_data ∷ (drop 1 (front_of false base) ++ be 3 n) }
+fn first_block(pads: KeyStream<3>, with_data: bool, n: usize) -> Block
+    ensures { result ≡ flags with_data ∷ (drop 1 (front_of false pads.entry.base) ++ be 3 n) }
 {
-    let mut b = counter_block(base, false, n);
+    let mut b = pads.block(n);
     b[0] = flags_of(with_data);
     b
 }
@@ -65,21 +64,21 @@ fn chain_data(aes: Cipher, y: Block, m: Message) -> Block
 }
 
 // The chain's state before the payload, and S0.
-#[derive(Drop)]
+#[derive(Clone, Copy)]
 struct Begun {
     chain: Block,
     pad: Block,
 }
 
 // The chain up to the payload. The first block is ciphered beside counter block 0.
-fn chain_start(aes: Cipher, base: Block, m: Message) -> Begun
-    ensures chain_value { result.chain ≡ chain_start (cipher aes.entry.keyed.keys.now) (drop 1 (front_of false base)) (m.entry.a.now ++ m.entry.b.now) (length m.entry.text.now) }
-    ensures pad_value { result.pad ≡ cipher aes.entry.keyed.keys.now (counter_block 3 (front_of false base) 0) }
+fn chain_start(pads: KeyStream<3>, m: Message) -> Begun
+    ensures chain_value { result.chain ≡ chain_start (cipher pads.entry.aes.keyed.keys.now) (drop 1 (front_of false pads.entry.base)) (m.entry.a.now ++ m.entry.b.now) (length m.entry.text.now) }
+    ensures pad_value { result.pad ≡ cipher pads.entry.aes.keyed.keys.now (counter_block 3 (front_of false pads.entry.base) 0) }
 {
     let with_data = m.a.len() + m.b.len() != 0;
-    let first = first_block(base, with_data, m.text.len());
-    let both = aes.encrypt_two(first, counter_block(base, false, 0));
-    let chain = chain_data(aes, Block::from(both.one), m);
+    let first = first_block(pads, with_data, m.text.len());
+    let both = pads.aes.encrypt_two(first, pads.block(0));
+    let chain = chain_data(pads.aes, Block::from(both.one), m);
     let pad = Block::from(both.other);
     Begun { chain, pad }
 }
@@ -89,12 +88,13 @@ pub(crate) fn seal(aes: Cipher, m: Message, out: &mut [u8]) -> Result<(), Refusa
     ensures { answer 0 (ccm_sealed (cipher aes.entry.keyed.keys.now) m.entry.iv.now (m.entry.a.now ++ m.entry.b.now) m.entry.text.now) out.old ≡ (outcome_number result, out.new) }
 {
     let n = m.text.len();
-    let base = base_of(m.iv);
-    let begun = chain_start(aes, base, m);
-    let y = begun.chain;
-    let pad = begun.pad;
-    let z = pass(aes, base, y, m.text, out, false, true);
-    let tag = xor_blocks(z, pad);
+    let pads = KeyStream::<3> {
+        aes,
+        base: base_of(m.iv),
+    };
+    let begun = chain_start(pads, m);
+    let z = pass(pads, begun.chain, m.text, out, false, true);
+    let tag = xor_blocks(z, begun.pad);
     put(&mut out[n..], &tag);
     Ok(())
 }
@@ -104,13 +104,13 @@ pub(crate) fn verify(aes: Cipher, m: Message, tag: &[u8]) -> Result<(), Refusal>
     requires { length tag.now ≡ 16 }
     ensures { outcome_number result ≡ tag_decides (ccm_tag_right (cipher aes.entry.keyed.keys.now) m.entry.iv.now (m.entry.a.now ++ m.entry.b.now) m.entry.text.now tag.now) }
 {
-    let base = base_of(m.iv);
-    let begun = chain_start(aes, base, m);
-    let y = begun.chain;
-    let pad = begun.pad;
-    let mut none = [0u8; 0];
-    let z = pass(aes, base, y, m.text, &mut none, true, false);
-    let right = xor_blocks(z, pad);
+    let pads = KeyStream::<3> {
+        aes,
+        base: base_of(m.iv),
+    };
+    let begun = chain_start(pads, m);
+    let z = pass(pads, begun.chain, m.text, &mut [], true, false);
+    let right = xor_blocks(z, begun.pad);
     check_tag(tag, &right)
 }
 
@@ -119,13 +119,14 @@ pub(crate) fn open(aes: Cipher, m: Message, tag: &[u8], out: &mut [u8]) -> Resul
     requires { (length tag.now ≡ 16) × (length m.text.now ≤ length out.old) }
     ensures { ccm_opened (cipher aes.entry.keyed.keys.now) m.entry.iv.now (m.entry.a.now ++ m.entry.b.now) m.entry.text.now tag.now out.old ≡ (outcome_number result, out.new) }
 {
+    let pads = KeyStream::<3> {
+        aes,
+        base: base_of(m.iv),
+    };
     if m.text.len() <= SHORT {
-        let base = base_of(m.iv);
-        let begun = chain_start(aes, base, m);
-        let y = begun.chain;
-        let pad = begun.pad;
-        return open_short(aes, base, y, pad, m.text, tag, out);
+        let begun = chain_start(pads, m);
+        return open_short(pads, begun.chain, begun.pad, m.text, tag, out);
     }
     verify(aes, m, tag)?;
-    counter(aes, base_of(m.iv), false, 1, m.text, out)
+    pads.add(1, m.text, out)
 }

@@ -1,48 +1,25 @@
-// Counter mode, which CCM and GCM share: the field of a counter block is four bytes where it is wide, and else three.
-ghost use Rattle.std.specs.Prelude.{◌≡◌, not, ◌+◌, ◌%◌, ◌≤◌, ◌<◌, min, length};
+// Counter mode, which CCM and GCM share.
+ghost use Rattle.std.specs.Prelude.{◌≡◌, not, ◌+◌, ◌-◌, ◌%◌, ◌≤◌, ◌<◌, length, take};
 ghost use Rattle.octets.specs.Blocks.{fill};
 ghost use Rattle.octets.specs.Xor.{xors};
 ghost use Rattle.aes.specs.Cipher.{cipher};
 ghost use Rattle.aes_fast.specs.Halves.{halves_block};
 ghost use Rattle.refusals.specs.Numbers.{outcome_number};
 ghost use Rattle.modes.specs.Pads.{Serves};
-ghost use Rattle.modes.specs.Counter.{counter_block, ctr, with_pad, counter_fits, counter_answer, width, front_of};
+ghost use Rattle.modes.specs.Counter.{counter_block, ctr, with_pad, counter_fits, counter_answer};
 
 use crate::cipher::Cipher;
 use aes_fast::halves::{Halves, add_halves, halves_at, put_halves};
 use aes_fast::start::Start;
-use octets::strings::{Block, put};
+use octets::strings::{Block, first, put, xor};
 use refusals::Refusal;
 
-pub(crate) fn counter_block(base: Block, wide: bool, i: usize) -> Block
-    ensures { result ≡ counter_block (width wide) (front_of wide base) i }
-{
-    let mut b = base;
-    b[13] = (i / 65536 % 256) as u8;
-    b[14] = (i / 256 % 256) as u8;
-    b[15] = (i % 256) as u8;
-    if wide {
-        b[12] = (i / 16777216 % 256) as u8;
-        return b;
-    }
-    b
-}
-
-// How many counters a field has, of four bytes and of three.
-const WIDE_LIMIT: usize = 4294967296;
-
-const NARROW_LIMIT: usize = 16777216;
-
-// Whether the counters from i on that n bytes take would run over the field.
-fn runs_over(wide: bool, i: usize, n: usize) -> bool
-    requires { i ≤ 2 }
-    ensures { result ≡ not (counter_fits (width wide) i n) }
-{
-    let last = i + (n / 16 + (n % 16 + 15) / 16);
-    if wide {
-        return WIDE_LIMIT < last;
-    }
-    NARROW_LIMIT < last
+// A cipher, and a block whose front is that of the counter blocks which it makes pads of. Their last W bytes are the counter's field.
+#[derive(Clone, Copy)]
+pub(crate) struct KeyStream<'a, const W: usize> {
+    pub(crate) aes: Cipher<'a>,
+    pub(crate) base: Block,
+    ghost width: { (0 < W) × (W < 8) },
 }
 
 // A last part of a text, of 16 bytes or less, with its pad, and zeros after it.
@@ -50,13 +27,8 @@ pub(crate) fn summed(text: &[u8], pad: Block) -> Block
     requires { length text.now ≤ 16 }
     ensures { result ≡ fill (xors text.now pad) }
 {
-    let mut x = [0u8; 16];
-    let mut j = 0;
-    while j < text.len() {
-        x[j] = text[j] ^ pad[j];
-        j += 1;
-    }
-    x
+    let sum: Block = xor(first(text), pad);
+    first(&sum[..text.len()])
 }
 
 // The block at place `at` of the text, with its pad, to the same place of the output.
@@ -69,115 +41,110 @@ fn add_at(text: &[u8], at: usize, pad: Halves, out: &mut [u8])
     put_halves(&mut out[at..], sum);
 }
 
-// What the counters share that differ from k in the last byte alone.
-pub(crate) fn start_at(aes: Cipher, base: Block, wide: bool, k: usize) -> Start
-    ensures { Serves aes.entry.keyed.tables.now aes.entry.keyed.keys.now (width wide) (front_of wide base) result k }
-{
-    aes.keyed.start_of(counter_block(base, wide, k))
-}
-
-// The start for the counter after k, from that for k.
-pub(crate) fn renewed(aes: Cipher, base: Block, wide: bool, s: Start, k: usize) -> Start
-    requires { (k < 18446744073709551615) × Serves aes.keyed.tables.now aes.keyed.keys.now (width wide) (front_of wide base) s k }
-    ensures { Serves aes.entry.keyed.tables.now aes.entry.keyed.keys.now (width wide) (front_of wide base) result (k + 1) }
-{
-    if (k + 1) % 256 == 0 {
-        return start_at(aes, base, wide, k + 1);
+impl<const W: usize> KeyStream<'_, W> {
+    pub(crate) fn block(self, i: usize) -> Block
+        ensures { result ≡ counter_block W (take (16 - W) self.entry.base) i }
+    {
+        let mut b = self.base;
+        b[16 - W..].copy_from_slice(&i.to_be_bytes()[8 - W..]);
+        b
     }
-    s
-}
 
-// A block or less, with counter k.
-fn add_single(aes: Cipher, base: Block, wide: bool, k: usize, text: &[u8], out: &mut [u8])
-    requires { (length text.now ≤ 16) × (length out.old ≡ length text.now) }
-    ensures { out.new ≡ ctr (cipher aes.entry.keyed.keys.now) (width wide) (front_of wide base) k text.now }
-{
-    if text.len() == 0 {
-        return;
+    // Whether the counters from i on that n bytes take would run over the field.
+    fn runs_over(self, i: usize, n: usize) -> bool
+        requires { i ≤ 2 }
+        ensures { result ≡ not (counter_fits W i n) }
+    {
+        256usize.pow(W as u32) < i + n.div_ceil(16)
     }
-    let sum = summed(text, aes.encrypt(counter_block(base, wide, k)));
-    put(out, &sum);
-}
 
-fn least(a: usize, b: usize) -> usize
-    ensures { result ≡ min a b }
-{
-    if a < b { a } else { b }
-}
+    // What the counters share that differ from k in the last byte alone.
+    pub(crate) fn start_at(self, k: usize) -> Start
+        ensures { Serves self.entry.aes.keyed.tables.now self.entry.aes.keyed.keys.now W (take (16 - W) self.entry.base) result k }
+    {
+        self.aes.keyed.start_of(self.block(k))
+    }
 
-// Less than two blocks, from counter i on.
-fn add_rest(aes: Cipher, base: Block, wide: bool, i: usize, text: &[u8], out: &mut [u8])
-    requires { (length text.now < 32) × (length out.old ≡ length text.now) × (i < 18446744073709551615) }
-    ensures { out.new ≡ ctr (cipher aes.entry.keyed.keys.now) (width wide) (front_of wide base) i text.now }
-{
-    let n = text.len();
-    let middle = least(16, n);
-    add_single(aes, base, wide, i, &text[..middle], &mut out[..middle]);
-    add_single(
-        aes,
-        base,
-        wide,
-        i + 1,
-        &text[middle..n],
-        &mut out[middle..n],
-    );
-}
-
-// Two blocks a call, and then what is left, from an even counter i on: a pair's counters differ in the last byte alone.
-fn add_pairs(aes: Cipher, base: Block, wide: bool, i: usize, text: &[u8], out: &mut [u8])
-    requires { (length out.old ≡ length text.now) × (i % 2 ≡ 0) × (i ≤ 3) }
-    ensures { out.new ≡ ctr (cipher aes.entry.keyed.keys.now) (width wide) (front_of wide base) i text.now }
-{
-    let n = text.len();
-    let mut at = 0;
-    let mut k = i;
-    // The round keys by value, in this function's own frame: docs/DECISIONS.md.
-    let keys = *aes.keyed.keys;
-    let own = Cipher::of(aes.keyed.tables, &keys);
-    let mut s = start_at(own, base, wide, i);
-    while 32 <= n - at {
-        let next = at + 16;
-        let later = k + 1;
-        let pads = own
-            .keyed
-            .encrypt_two_from(s, (k % 256) as u8, (later % 256) as u8);
-        add_at(text, at, pads.one, out);
-        add_at(text, next, pads.other, out);
-        at = next + 16;
-        k = later + 1;
-        if k % 256 == 0 {
-            let v = start_at(own, base, wide, k);
-            s = v;
+    // The start for the counter after k, from that for k.
+    pub(crate) fn renewed(self, s: Start, k: usize) -> Start
+        requires { (k < 18446744073709551615) × Serves self.aes.keyed.tables.now self.aes.keyed.keys.now W (take (16 - W) self.base) s k }
+        ensures { Serves self.entry.aes.keyed.tables.now self.entry.aes.keyed.keys.now W (take (16 - W) self.entry.base) result (k + 1) }
+    {
+        if (k + 1) % 256 == 0 {
+            return self.start_at(k + 1);
         }
+        s
     }
-    add_rest(own, base, wide, k, &text[at..n], &mut out[at..n]);
-}
 
-// The text added to the key stream from counter i on, over the front of the output; refused, and nothing written, where the field would run over.
-pub(crate) fn counter(
-    aes: Cipher,
-    base: Block,
-    wide: bool,
-    i: usize,
-    text: &[u8],
-    out: &mut [u8],
-) -> Result<(), Refusal>
-    requires { (length text.now ≤ length out.old) × (i ≤ 2) }
-    ensures { counter_answer (cipher aes.entry.keyed.keys.now) (width wide) (front_of wide base) i text.now out.old ≡ (outcome_number result, out.new) }
-{
-    let n = text.len();
-    if runs_over(wide, i, n) {
-        return Err(Refusal::CounterRunsOver);
+    // A block or less, with counter k.
+    fn add_single(self, k: usize, text: &[u8], out: &mut [u8])
+        requires { (length text.now ≤ 16) × (length out.old ≡ length text.now) }
+        ensures { out.new ≡ ctr (cipher self.entry.aes.keyed.keys.now) W (take (16 - W) self.entry.base) k text.now }
+    {
+        if text.len() == 0 {
+            return;
+        }
+        let sum = summed(text, self.aes.encrypt(self.block(k)));
+        put(out, &sum);
     }
-    let head = least(16 * (i % 2), n);
-    add_single(aes, base, wide, i, &text[..head], &mut out[..head]);
-    add_pairs(
-        aes,
-        base,
-        wide,
-        i + i % 2,
-        &text[head..n],
-        &mut out[head..n],
-    );
-    Ok(())
+
+    // Less than two blocks, from counter i on.
+    fn add_rest(self, i: usize, text: &[u8], out: &mut [u8])
+        requires { (length text.now < 32) × (length out.old ≡ length text.now) × (i < 18446744073709551615) }
+        ensures { out.new ≡ ctr (cipher self.entry.aes.keyed.keys.now) W (take (16 - W) self.entry.base) i text.now }
+    {
+        let n = text.len();
+        let middle = n.min(16);
+        self.add_single(i, &text[..middle], &mut out[..middle]);
+        self.add_single(i + 1, &text[middle..n], &mut out[middle..n]);
+    }
+
+    // Two blocks a call, and then what is left, from an even counter i on: a pair's counters differ in the last byte alone.
+    fn add_pairs(self, i: usize, text: &[u8], out: &mut [u8])
+        requires { (length out.old ≡ length text.now) × (i % 2 ≡ 0) × (i ≤ 3) }
+        ensures { out.new ≡ ctr (cipher self.entry.aes.keyed.keys.now) W (take (16 - W) self.entry.base) i text.now }
+    {
+        // The round keys by value, in this function's own frame: docs/DECISIONS.md.
+        let keys = *self.aes.keyed.keys;
+        let aes = Cipher::of(self.aes.keyed.tables, &keys);
+        let own = KeyStream::<W> {
+            aes,
+            base: self.base,
+        };
+        let n = text.len();
+        let mut at = 0;
+        let mut k = i;
+        let mut s = own.start_at(i);
+        while 32 <= n - at {
+            let next = at + 16;
+            let later = k + 1;
+            let pads = aes
+                .keyed
+                .encrypt_two_from(s, (k % 256) as u8, (later % 256) as u8);
+            add_at(text, at, pads.one, out);
+            add_at(text, next, pads.other, out);
+            at = next + 16;
+            k = later + 1;
+            if k % 256 == 0 {
+                let v = own.start_at(k);
+                s = v;
+            }
+        }
+        own.add_rest(k, &text[at..n], &mut out[at..n]);
+    }
+
+    // The text added to the pads from counter i on, over the front of the output; refused, and nothing written, where the field would run over.
+    pub(crate) fn add(self, i: usize, text: &[u8], out: &mut [u8]) -> Result<(), Refusal>
+        requires { (length text.now ≤ length out.old) × (i ≤ 2) }
+        ensures { counter_answer (cipher self.entry.aes.keyed.keys.now) W (take (16 - W) self.entry.base) i text.now out.old ≡ (outcome_number result, out.new) }
+    {
+        let n = text.len();
+        if self.runs_over(i, n) {
+            return Err(Refusal::CounterRunsOver);
+        }
+        let head = n.min(16 * (i % 2));
+        self.add_single(i, &text[..head], &mut out[..head]);
+        self.add_pairs(i + i % 2, &text[head..n], &mut out[head..n]);
+        Ok(())
+    }
 }

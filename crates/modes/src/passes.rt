@@ -10,7 +10,7 @@ ghost use Rattle.modes.specs.Calls.{text_max};
 ghost use Rattle.modes.specs.Counter.{ctr, with_pad, plain_block, shown_text, front_of};
 
 use crate::cipher::Cipher;
-use crate::counter::{renewed, start_at, summed};
+use crate::counter::{KeyStream, summed};
 use aes_fast::halves::{Both, Halves, add_halves, halves_at, put_halves};
 use aes_fast::start::Start;
 use octets::strings::{Block, first16, put, xor_blocks};
@@ -108,8 +108,7 @@ fn put_last(text: &[u8], pad: Block, out: &mut [u8], opening: bool)
 // One pass over a text, in both directions: the chain along its plaintext, each block but the last beside the next counter's pad.
 // Where it writes, the ciphertext of a text that is sealed goes over the front of the output, and of one that is opened the pads alone: its plaintext goes nowhere.
 pub(crate) fn pass(
-    aes: Cipher,
-    base: Block,
+    pads: KeyStream<3>,
     y: Block,
     text: &[u8],
     out: &mut [u8],
@@ -117,22 +116,26 @@ pub(crate) fn pass(
     written: bool,
 ) -> Block
     requires { (length text.now ≤ text_max) × (written ≡ true → length text.now ≤ length out.old) }
-    ensures value { result ≡ chain (cipher aes.entry.keyed.keys.now) y (cut (when opening (ctr (cipher aes.entry.keyed.keys.now) 3 (front_of false base) 1 text.now) text.now)) }
-    ensures out_after { out.new ≡ when written (over (ctr (cipher aes.entry.keyed.keys.now) 3 (front_of false base) 1 (shown_text opening text.now)) out.old) out.old }
+    ensures value { result ≡ chain (cipher pads.entry.aes.keyed.keys.now) y (cut (when opening (ctr (cipher pads.entry.aes.keyed.keys.now) 3 (front_of false pads.entry.base) 1 text.now) text.now)) }
+    ensures out_after { out.new ≡ when written (over (ctr (cipher pads.entry.aes.keyed.keys.now) 3 (front_of false pads.entry.base) 1 (shown_text opening text.now)) out.old) out.old }
 {
     let n = text.len();
     let mut h = Halves::from(y);
     let mut at = 0;
     let mut k = 1;
     // The round keys by value, in this function's own frame: docs/DECISIONS.md.
-    let keys = *aes.keyed.keys;
-    let own = Cipher::of(aes.keyed.tables, &keys);
-    let mut s = start_at(own, base, false, 1);
-    let mut pad = own.keyed.encrypt_from(s, 1);
+    let keys = *pads.aes.keyed.keys;
+    let aes = Cipher::of(pads.aes.keyed.tables, &keys);
+    let own = KeyStream::<3> {
+        aes,
+        base: pads.base,
+    };
+    let mut s = own.start_at(1);
+    let mut pad = aes.keyed.encrypt_from(s, 1);
     while 16 < n - at {
-        let v = renewed(own, base, false, s, k);
+        let v = own.renewed(s, k);
         let low = ((k + 1) % 256) as u8;
-        let both = pass_block(own, v, low, h, pad, text, at, out, opening, written);
+        let both = pass_block(aes, v, low, h, pad, text, at, out, opening, written);
         h = both.one;
         pad = both.other;
         s = v;
@@ -140,7 +143,7 @@ pub(crate) fn pass(
         k += 1;
     }
     let last = Block::from(pad);
-    let z = chain_last(own, last, Block::from(h), &text[at..n], opening);
+    let z = chain_last(aes, last, Block::from(h), &text[at..n], opening);
     if !written {
         return z;
     }

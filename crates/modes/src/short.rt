@@ -7,7 +7,7 @@ ghost use Rattle.refusals.specs.Numbers.{outcome_number};
 ghost use Rattle.modes.specs.Counter.{counter_block, front_of};
 ghost use Rattle.modes.specs.Within.{short_max, opened_from};
 
-use crate::cipher::Cipher;
+use crate::counter::KeyStream;
 use crate::passes::pass;
 use crate::sizes::SHORT;
 use crate::tag::check_tag;
@@ -19,31 +19,28 @@ fn put_sum(out: &mut [u8], c: &[u8], pads: &[u8])
     requires { (length pads.now ≡ length c.now) × (length c.now ≤ length out.old) }
     ensures { out.new ≡ over (xors c.now pads.now) out.old }
 {
-    let mut i = 0;
-    while i < c.len() {
-        out[i] = c[i] ^ pads[i];
-        i += 1;
+    for (i, b) in c.iter().enumerate() {
+        out[i] = b ^ pads[i];
     }
 }
 
 // The plaintext where the tag is right, from the chain's state y before it and from S0. The output is lent on only after the tag was found right.
 pub(crate) fn open_short(
-    aes: Cipher,
-    base: Block,
+    pads: KeyStream<3>,
     y: Block,
     s0: Block,
     c: &[u8],
     tag: &[u8],
     out: &mut [u8],
 ) -> Result<(), Refusal>
-    requires { (length c.now ≤ short_max) × (length c.now ≤ length out.old) × (s0 ≡ cipher aes.keyed.keys.now (counter_block 3 (front_of false base) 0)) }
-    ensures { opened_from (cipher aes.entry.keyed.keys.now) (front_of false base) y c.now tag.now out.old ≡ (outcome_number result, out.new) }
+    requires { (length c.now ≤ short_max) × (length c.now ≤ length out.old) × (s0 ≡ cipher pads.aes.keyed.keys.now (counter_block 3 (front_of false pads.base) 0)) }
+    ensures { opened_from (cipher pads.entry.aes.keyed.keys.now) (front_of false pads.entry.base) y c.now tag.now out.old ≡ (outcome_number result, out.new) }
 {
     let n = c.len();
-    let mut pads = [0u8; SHORT];
-    let z = pass(aes, base, y, c, &mut pads, true, true);
+    let mut kept = [0; SHORT];
+    let z = pass(pads, y, c, &mut kept, true, true);
     let right = xor_blocks(z, s0);
     check_tag(tag, &right)?;
-    put_sum(out, c, &pads[..n]);
+    put_sum(out, c, &kept[..n]);
     Ok(())
 }

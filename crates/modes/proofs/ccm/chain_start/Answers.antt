@@ -15,9 +15,9 @@ use Rattle.modes.proofs.ccm.chain_start.Goals as goal
 pub returns-clause-chain_value : goal.returns-clause-chain_value
 returns-clause-chain_value c =
     let a = c.args in
-    let F = cipher a.aes.keyed.keys.now in
+    let F = cipher a.pads.aes.keyed.keys.now in
     c.chain_data-chain.ensures
     ∙ ap (λ (y : List ℕ). chain F y (data_blocks (a.m.a.now ++ a.m.b.now)))
     (c.from.ensures
     ∙ c.encrypt_two-both.ensures.0
-    ∙ ap F (c.first_block-first.ensures ∙ first_block-parts (drop 1 (front_of false a.base)) a.m.a.now a.m.b.now (length a.m.text.now)))
+    ∙ ap F (c.first_block-first.ensures ∙ first_block-parts (drop 1 (front_of false a.pads.base)) a.m.a.now a.m.b.now (length a.m.text.now)))

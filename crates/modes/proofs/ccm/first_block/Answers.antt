@@ -9,5 +9,5 @@ use Rattle.modes.proofs.ccm.first_block.Goals as goal
 
 pub returns : goal.returns
 returns c =
-    ap₂ (λ (l : List ℕ) (v : ℕ). set l 0 v) c.counter_block-b.ensures c.flags_of.ensures
-    ∙ first_stored c.args.base c.args.n _ c.well_formed.0.1.0.1
+    ap₂ (λ (l : List ℕ) (v : ℕ). set l 0 v) c.block-b.ensures c.flags_of.ensures
+    ∙ first_stored c.args.pads.base c.args.n _ c.well_formed.0.1.1.1.0.1.0.1

@@ -12,7 +12,7 @@ use Rattle.modes.proofs.ccm.open.Goals as goal
 pub returns-then-m-le-SHORT : goal.returns-then-m-le-SHORT
 returns-then-m-le-SHORT c =
     let a = c.args in
-    short-opened (cipher a.aes.keyed.keys.now) (cipher-length a.aes.keyed.keys.now) a.m.iv.now (a.m.a.now ++ a.m.b.now) a.m.iv_size c.base_of-base.ensures
+    short-opened (cipher a.aes.keyed.keys.now) (cipher-length a.aes.keyed.keys.now) a.m.iv.now (a.m.a.now ++ a.m.b.now) a.m.iv_size c.base_of.ensures
     a.m.text.now a.tag.now a.out.now c.requires.0 c.chain_start-begun.ensures.chain_value c.open_short.ensures
 
 pub returns : goal.returns
@@ -20,4 +20,4 @@ returns c =
     let a = c.args in
     answer_passed (ccm_text (cipher a.aes.keyed.keys.now) a.m.iv.now a.m.text.now) a.out.now c.in_ok-verify.ensures
     (text-written (cipher a.aes.keyed.keys.now) (cipher-length a.aes.keyed.keys.now) a.m.iv.now (a.m.a.now ++ a.m.b.now) a.m.iv_size c.base_of.ensures
-    a.m.text.now a.out.now a.m.text_fits c.counter.ensures)
+    a.m.text.now a.out.now a.m.text_fits c.add.ensures)

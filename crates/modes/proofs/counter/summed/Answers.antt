@@ -1,20 +1,28 @@
--- `modes::counter::summed` meets its contract: what is written, with zeros after it.
+-- `modes::counter::summed` meets its contract: the sum of the text with zeros after it, cut to the text's length, is the text's own.
 -- Assumes nothing.
-use mathlib.Core.Path.{refl}
+use mathlib.Core.Path.{◌≡◌, refl, ap, ◌∙◌}
+use mathlib.Core.List.{List, [], ◌∷◌, ◌++◌}
+use Prim.Native.Nat.{ℕ, ◌≤◌}
 use native.Mathlib.Omega.{arith}
-use Rattle.octets.proofs.Written.{summed_turn, summed_end}
+use lib.ListN.{length, take, replicate, length-take}
+use Rattle.std.specs.Int.Bits.{bit_xor}
+use Rattle.octets.specs.Xor.{xors}
+use Rattle.octets.specs.Blocks.{fill}
+use Rattle.octets.proofs.Lent.{over_fits}
+use Rattle.octets.proofs.Written.{over_filled}
 use Rattle.modes.proofs.counter.summed.Goals as goal
 
-pub loop-j-init : goal.loop-j-init
-loop-j-init c = (omega arith, refl)
-
-pub loop-j-preserved : goal.loop-j-preserved
-loop-j-preserved c =
-    let l = c.loop-j in
-    let pad = c.well_formed.1.0.1.0.1 in
-    (omega arith, summed_turn c.args.text.now c.args.pad pad c.requires l.j c.loop-j-test.true l.invariant.1)
+front_sum : (s z pad : List ℕ) → length s ≤ length pad → take (length s) (xors (s ++ z) pad) ≡ xors s pad
+front_sum [] z pad h = refl
+front_sum (x ∷ s) z [] h = absurd (omega arith)
+front_sum (x ∷ s) z (y ∷ pad) h = ap (λ (l : List ℕ). bit_xor x y ∷ l) (front_sum s z pad (omega arith))
 
 pub returns : goal.returns
 returns c =
-    let l = c.loop-j in
-    summed_end c.args.text.now c.args.pad c.well_formed.1.0.1.0.1 c.requires l.j l.invariant.0 c.loop-j-test.false l.invariant.1
+    let a = c.args in
+    let n = length a.text.now in
+    c.first-2.ensures
+    ∙ over_filled (take n c.xor-sum.result) (omega (arith, length-take n c.xor-sum.result, c.requires))
+    ∙ ap fill
+    (ap (take n) (c.xor-sum.ensures ∙ ap (λ (l : List ℕ). xors l a.pad) (c.first.ensures ∙ over_fits a.text.now (replicate 16 0) c.requires))
+    ∙ front_sum a.text.now _ a.pad (omega (arith, c.requires)))

@@ -13,4 +13,4 @@ returns c =
     let a = c.args in
     answer_passed (gcm_text (cipher a.aes.keyed.keys.now) a.m.iv.now a.m.text.now) a.out.now c.in_ok-verify.ensures
     (text-written (cipher a.aes.keyed.keys.now) (cipher-length a.aes.keyed.keys.now) a.m.iv.now (a.m.a.now ++ a.m.b.now) a.m.iv_size c.base_of.ensures
-    a.m.text.now a.out.now a.m.text_fits c.counter.ensures)
+    a.m.text.now a.out.now a.m.text_fits c.add.ensures)

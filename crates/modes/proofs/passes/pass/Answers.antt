@@ -13,15 +13,15 @@ use Rattle.modes.proofs.passes.pass.Goals.{After-chain_last-z}
 use Rattle.modes.proofs.passes.pass.Goals as goal
 
 -- the pad of its counter
-pad-is : (c : After-chain_last-z) → (let a = c.args in c.from-last.result ≡ cipher c.of-own.result.keyed.keys.now (counter_block 3 (front_of false a.base) c.loop-at.k))
+pad-is : (c : After-chain_last-z) → (let a = c.args in c.from-last.result ≡ cipher c.of-aes.result.keyed.keys.now (counter_block 3 (front_of false a.pads.base) c.loop-at.k))
 pad-is c = c.from-last.ensures ∙ c.loop-at.invariant.1
 
 chained : (c : After-chain_last-z)
     → (let a = c.args in
-    c.chain_last-z.result ≡ chain (cipher c.of-own.result.keyed.keys.now) a.y (cut (plain_text a.opening (cipher c.of-own.result.keyed.keys.now) 3 (front_of false a.base) 1 a.text.now)))
+    c.chain_last-z.result ≡ chain (cipher c.of-aes.result.keyed.keys.now) a.y (cut (plain_text a.opening (cipher c.of-aes.result.keyed.keys.now) 3 (front_of false a.pads.base) 1 a.text.now)))
 chained c =
     let a = c.args in
-    passed_chained (cipher c.of-own.result.keyed.keys.now) (cipher-length c.of-own.result.keyed.keys.now) 3 (front_of false a.base) a.opening a.written c.loop-at.invariant.2
+    passed_chained (cipher c.of-aes.result.keyed.keys.now) (cipher-length c.of-aes.result.keyed.keys.now) 3 (front_of false a.pads.base) a.opening a.written c.loop-at.invariant.2
     (omega (arith, c.loop-at-test.false)) c.from-h.ensures (pad-is c) c.from.ensures c.chain_last-z.ensures
 
 pub loop-at-init : goal.loop-at-init
@@ -30,7 +30,7 @@ loop-at-init c =
     let a = c.args in (
       serves,
       c.encrypt_from-pad.ensures ∙ serves.pads 1 refl,
-      passed_start (cipher c.of-own.result.keyed.keys.now) (cipher-length c.of-own.result.keyed.keys.now) 3 (front_of false a.base) a.opening a.written _ a.text.now a.out.now,
+      passed_start (cipher c.of-aes.result.keyed.keys.now) (cipher-length c.of-aes.result.keyed.keys.now) 3 (front_of false a.pads.base) a.opening a.written _ a.text.now a.out.now,
     )
 
 pub loop-at-preserved : goal.loop-at-preserved
@@ -41,19 +41,19 @@ loop-at-preserved c =
     let both = c.pass_block-both.ensures in (
       serves,
       both.other_value ∙ serves.pads (l.k + 1) refl,
-      passed_block (cipher c.of-own.result.keyed.keys.now) (cipher-length c.of-own.result.keyed.keys.now) 3 (front_of false a.base) a.opening a.written l.invariant.2 c.requires.1
+      passed_block (cipher c.of-aes.result.keyed.keys.now) (cipher-length c.of-aes.result.keyed.keys.now) 3 (front_of false a.pads.base) a.opening a.written l.invariant.2 c.requires.1
           (omega (arith, c.loop-at-test.true)) l.invariant.1 both.one_value both.out_after,
     )
 
 pub returns-then-not-written-clause-value : goal.returns-then-not-written-clause-value
-returns-then-not-written-clause-value c = rw c.of-own.ensures.1 at (chained (goal.at.returns-then-not-written-clause-value c).After-chain_last-z)
+returns-then-not-written-clause-value c = rw c.of-aes.ensures.1 at (chained (goal.at.returns-then-not-written-clause-value c).After-chain_last-z)
 
 pub returns-clause-value : goal.returns-clause-value
-returns-clause-value c = rw c.of-own.ensures.1 at (chained (goal.at.returns-clause-value c).After-chain_last-z)
+returns-clause-value c = rw c.of-aes.ensures.1 at (chained (goal.at.returns-clause-value c).After-chain_last-z)
 
 pub returns-clause-out_after : goal.returns-clause-out_after
 returns-clause-out_after c =
     let a = c.args in
-    rw c.of-own.ensures.1 at
-    (passed-written (cipher c.of-own.result.keyed.keys.now) (cipher-length c.of-own.result.keyed.keys.now) 3 (front_of false a.base) a.opening a.written c.if-not-written.false
+    rw c.of-aes.ensures.1 at
+    (passed-written (cipher c.of-aes.result.keyed.keys.now) (cipher-length c.of-aes.result.keyed.keys.now) 3 (front_of false a.pads.base) a.opening a.written c.if-not-written.false
     c.loop-at.invariant.2 c.requires.1 (omega (arith, c.loop-at-test.false)) (pad-is (goal.at.returns-clause-out_after c).After-chain_last-z) c.put_last.ensures)

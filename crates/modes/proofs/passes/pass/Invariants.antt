@@ -11,9 +11,9 @@ use Rattle.modes.proofs.passes.pass.Given as goal
 
 abbrev pub invariant-loop-at : goal.invariant-loop-at
 invariant-loop-at l =
-    Serves l.initial.own.keyed.tables.now l.initial.own.keyed.keys.now 3 (front_of false l.base) l.s l.k
-    × (halves_block l.pad ≡ cipher l.initial.own.keyed.keys.now (counter_block 3 (front_of false l.base) l.k))
-    × Passed l.opening l.written (cipher l.initial.own.keyed.keys.now) 3 (front_of false l.base) (halves_block l.initial.h) l.text l.initial.out (halves_block l.h) l.at l.k l.out
+    Serves l.initial.aes.keyed.tables.now l.initial.aes.keyed.keys.now 3 (front_of false l.pads.base) l.s l.k
+    × (halves_block l.pad ≡ cipher l.initial.aes.keyed.keys.now (counter_block 3 (front_of false l.pads.base) l.k))
+    × Passed l.opening l.written (cipher l.initial.aes.keyed.keys.now) 3 (front_of false l.pads.base) (halves_block l.initial.h) l.text l.initial.out (halves_block l.h) l.at l.k l.out
 
 abbrev pub decreases-loop-at : goal.decreases-loop-at
 decreases-loop-at l = length l.text - l.at

@@ -12,9 +12,9 @@ use Rattle.modes.proofs.short.open_short.Goals as goal
 pub returns : goal.returns
 returns c =
     let a = c.args in
-    let F = cipher a.aes.keyed.keys.now in
-    let front = front_of false a.base in
+    let F = cipher a.pads.aes.keyed.keys.now in
+    let front = front_of false a.pads.base in
     answer_passed (ctr F 3 front 1 a.c.now) a.out.now
-    (short-number F (cipher-length a.aes.keyed.keys.now) front a.c.now a.tag.now a.y c.pass-z.ensures.value c.requires.2 c.xor_blocks-right.ensures
+    (short-number F (cipher-length a.pads.aes.keyed.keys.now) front a.c.now a.tag.now a.y c.pass-z.ensures.value c.requires.2 c.xor_blocks-right.ensures
     c.in_ok-check_tag.ensures)
-    (short-put F (cipher-length a.aes.keyed.keys.now) front a.c.now short_max c.requires.0 c.pass-z.ensures.out_after a.out.now c.put_sum.ensures)
+    (short-put F (cipher-length a.pads.aes.keyed.keys.now) front a.c.now short_max c.requires.0 c.pass-z.ensures.out_after a.out.now c.put_sum.ensures)

@@ -17,7 +17,7 @@ long : (s pads : List ℕ) → length pads ≡ length s → length (xors s pads)
 long s pads e = length-xors s pads (omega (arith, e))
 
 pub loop-i-init : goal.loop-i-init
-loop-i-init c = (omega arith, refl, refl)
+loop-i-init c = (refl, refl)
 
 pub bounds-pads-i : goal.bounds-pads-i
 bounds-pads-i c = omega (arith, c.requires.0)
@@ -30,17 +30,16 @@ loop-i-preserved c =
     let a = c.args in
     let l = c.loop-i in
     let size = long a.c.now a.pads.now c.requires.0 in (
-      omega arith,
-      simp length-set l.invariant.1,
-      ap₂ (λ (d : List ℕ) (v : ℕ). set d l.i v) l.invariant.2 (sym (get_d-xors a.c.now a.pads.now l.i (omega arith) (omega (arith, c.requires.0))))
+      simp length-set l.invariant.0,
+      ap₂ (λ (d : List ℕ) (v : ℕ). set d l.i v) l.invariant.1 (sym (get_d-xors a.c.now a.pads.now l.i (omega arith) (omega (arith, c.requires.0))))
           ∙ over_turn (xors a.c.now a.pads.now) a.out.now l.i (omega (arith, size)) (omega (arith, c.requires.1)),
     )
 
 pub shape_of-out : goal.shape_of-out
-shape_of-out c = c.loop-i.invariant.1
+shape_of-out c = c.loop-i.invariant.0
 
 pub returns : goal.returns
 returns c =
     let a = c.args in
-    c.loop-i.invariant.2
+    c.loop-i.invariant.1
     ∙ over_end (xors a.c.now a.pads.now) a.out.now c.loop-i.i (omega (arith, long a.c.now a.pads.now c.requires.0, c.requires.1))
