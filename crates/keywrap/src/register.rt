@@ -1,7 +1,6 @@
 // The register: five parts of eight bytes, A and then R[1] to R[4], by value.
 ghost use Rattle.std.specs.Prelude.{◌≡◌, ◌∷◌, ◌++◌, ◌+◌, ◌≤◌, length};
 ghost use Rattle.octets.specs.Values.{bytes_at};
-ghost use Rattle.octets.specs.Xor.{xors};
 ghost use Rattle.keywrap.specs.Wrap.{start_value, parts};
 
 pub(crate) type Part = [u8; 8];
@@ -17,22 +16,6 @@ pub(crate) fn eight_at(s: &[u8], at: usize) -> Part
     ensures { result ≡ bytes_at 8 s.now at }
 {
     *s[at..].first_chunk().unwrap()
-}
-
-// The exclusive or of two parts.
-pub(crate) fn xor_parts(a: Part, b: Part) -> Part
-    ensures { result ≡ xors a b }
-{
-    [
-        a[0] ^ b[0],
-        a[1] ^ b[1],
-        a[2] ^ b[2],
-        a[3] ^ b[3],
-        a[4] ^ b[4],
-        a[5] ^ b[5],
-        a[6] ^ b[6],
-        a[7] ^ b[7],
-    ]
 }
 
 // What wrapping starts from: the initial value and the key's parts.

@@ -2,10 +2,10 @@
 ghost use Rattle.std.specs.Prelude.{◌≡◌, ◌-◌, ◌≤◌, ◌<◌};
 ghost use Rattle.keywrap.specs.Wrap.{part_at, wrap_step, wrap_steps, unwrap_step, unwrap_steps};
 
-use crate::register::{Register, eight_at, xor_parts};
+use crate::register::{Register, eight_at};
 use aes::{RoundKeys, decrypt, encrypt};
 use octets::big_endian::bytes64;
-use octets::strings::two_eights;
+use octets::strings::{two_eights, xor};
 
 const STEPS: usize = 24;
 
@@ -18,56 +18,52 @@ fn part_at(t: usize) -> usize
 }
 
 #[tactic(auto, using(crate::proofs::Stepped::wrap_step_made))]
-fn wrap_step(ks: RoundKeys, t: usize, r: Register) -> Register
+fn wrap_step(ks: RoundKeys, t: usize, mut r: Register) -> Register
     requires { 1 ≤ t }
     ensures { result ≡ wrap_step ks t r }
 {
     let i = part_at(t);
     let b = encrypt(ks, two_eights(r[0], r[i]));
-    let mut s = r;
-    let a = xor_parts(eight_at(&b, 0), bytes64(t as u64));
-    s[0] = a;
-    let p = eight_at(&b, 8);
-    s[i] = p;
-    s
+    let a = xor(eight_at(&b, 0), bytes64(t as u64));
+    let part = eight_at(&b, 8);
+    r[0] = a;
+    r[i] = part;
+    r
 }
 
 #[tactic(auto, using(crate::proofs::Stepped::unwrap_step_made))]
-fn unwrap_step(ks: RoundKeys, t: usize, r: Register) -> Register
+fn unwrap_step(ks: RoundKeys, t: usize, mut r: Register) -> Register
     requires { 1 ≤ t }
     ensures { result ≡ unwrap_step ks t r }
 {
     let i = part_at(t);
-    let a = xor_parts(r[0], bytes64(t as u64));
-    let b = decrypt(ks, two_eights(a, r[i]));
-    let mut s = r;
-    let first = eight_at(&b, 0);
-    s[0] = first;
-    let p = eight_at(&b, 8);
-    s[i] = p;
-    s
+    let masked = xor(r[0], bytes64(t as u64));
+    let b = decrypt(ks, two_eights(masked, r[i]));
+    let a = eight_at(&b, 0);
+    let part = eight_at(&b, 8);
+    r[0] = a;
+    r[i] = part;
+    r
 }
 
 #[tactic(auto, using(crate::proofs::Stepped::wrap_steps_turn), unfolding(crate::specs::Wrap::wrap_steps))]
-pub(crate) fn wrap_steps(ks: RoundKeys, r: Register) -> Register
+pub(crate) fn wrap_steps(ks: RoundKeys, mut r: Register) -> Register
     ensures { result ≡ wrap_steps ks 24 r }
 {
-    let mut s = r;
     for t in 1..=STEPS {
-        let next = wrap_step(ks, t, s);
-        s = next;
+        let next = wrap_step(ks, t, r);
+        r = next;
     }
-    s
+    r
 }
 
 #[tactic(auto, using(crate::proofs::Stepped::unwrap_steps_turn), unfolding(crate::specs::Wrap::unwrap_steps))]
-pub(crate) fn unwrap_steps(ks: RoundKeys, r: Register) -> Register
+pub(crate) fn unwrap_steps(ks: RoundKeys, mut r: Register) -> Register
     ensures { result ≡ unwrap_steps ks 24 r }
 {
-    let mut s = r;
     for t in (1..=STEPS).rev() {
-        let next = unwrap_step(ks, t, s);
-        s = next;
+        let next = unwrap_step(ks, t, r);
+        r = next;
     }
-    s
+    r
 }

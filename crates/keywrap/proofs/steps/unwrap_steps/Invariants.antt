@@ -4,4 +4,4 @@ use Rattle.keywrap.proofs.steps.unwrap_steps.Given as goal
 
 -- the steps left lead to what all 24 lead to from the start
 abbrev pub invariant-loop-t : goal.invariant-loop-t
-invariant-loop-t l = unwrap_steps l.ks l.t l.s ≡ unwrap_steps l.ks 24 l.initial.s
+invariant-loop-t l = unwrap_steps l.ks l.t l.r ≡ unwrap_steps l.ks 24 l.initial.r
