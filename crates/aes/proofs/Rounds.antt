@@ -1,16 +1,14 @@
 -- One more round, as the loops count them.
 -- Assumes nothing.
-use mathlib.Core.Path.{◌≡◌, sym, ◌∙◌}
+use mathlib.Core.Path.{◌≡◌, ◌∙◌}
 use mathlib.Core.List.{List, []}
 use Prim.Native.Nat.{ℕ, zero, suc, ◌+◌, ◌-◌, ◌<◌}
 use native.Mathlib.Nat.{not-suc-le-zero}
 use native.Mathlib.Numerals.{add-one, sub-one}
 use lib.ListN.{get_or}
-use Rattle.aes.specs.State.{State, state_from, bytes_of}
-use Rattle.aes.specs.Cipher.{add_round_key, round, last_round, first_rounds, cipher}
-use Rattle.aes.specs.Cipher.Inside.{cipher_is}
-use Rattle.aes.specs.InvCipher.{inv_round, inv_last_round, inv_rounds, inv_cipher}
-use Rattle.aes.specs.InvCipher.Inside.{inv_cipher_is}
+use Rattle.aes.specs.State.{State}
+use Rattle.aes.specs.Cipher.{round, first_rounds}
+use Rattle.aes.specs.InvCipher.{inv_round, inv_last_round, inv_rounds}
 
 pub rounds_more : (ks : List State) (i : ℕ) (s t u : State) → t ≡ first_rounds ks i s → u ≡ round t (get_or ks (i + 1) []) → u ≡ first_rounds ks (i + 1) s
 unfolding first_rounds
@@ -24,11 +22,3 @@ inv_rounds_less ks (suc i) s t u h p q = rw (q, sub-one) p
 pub inv_rounds_end : (ks : List State) (i : ℕ) (s t u : State) → i ≡ 0 → inv_rounds ks i t ≡ s → u ≡ inv_last_round t (get_or ks 0 []) → u ≡ s
 unfolding inv_rounds
 inv_rounds_end ks i s t u z p q = q ∙ (rw z at p)
-
--- a block from its load to its store
-module _ (ks : List State) (b r : List ℕ) (l x y : State) where
-  pub ciphered : (z : State) → l ≡ state_from b → x ≡ add_round_key l (get_or ks 0 []) → y ≡ first_rounds ks 13 x → z ≡ last_round y (get_or ks 14 []) → r ≡ bytes_of z → r ≡ cipher ks b
-  ciphered z e₁ e₂ e₃ e₄ e₅ = rw (e₅, e₄, e₃, e₂, e₁) (sym (cipher_is ks b))
-
-  pub unciphered : l ≡ state_from b → x ≡ add_round_key l (get_or ks 14 []) → y ≡ inv_rounds ks 13 x → r ≡ bytes_of y → r ≡ inv_cipher ks b
-  unciphered e₁ e₂ e₃ e₄ = rw (e₄, e₃, e₂, e₁) (sym (inv_cipher_is ks b))

@@ -1,17 +1,17 @@
 -- FIPS 197's word loop, read at a word's place, and the code's schedule four words at a time: they are one.
 -- Assumes nothing.
-use mathlib.Core.Path.{◌≡◌, refl, sym, ap, ap₂, ◌∙◌}
+use mathlib.Core.Path.{◌≡◌, refl, sym, ap, ap₂, subst, ◌∙◌}
 use mathlib.Core.List.{List, [], ◌∷◌, ◌++◌}
 use Prim.Native.Nat.{ℕ, zero, suc, ◌+◌, ◌-◌, ◌*◌, ◌%◌, ◌≤◌, ◌<◌}
 use native.Mathlib.Nat.{add-zero, zero-add}
 use native.Mathlib.Omega.{arith}
 use lib.Dec.{lit<, lit≤}
-use lib.ListN.{length, get_or, length-append, get_or-append}
+use lib.ListN.{length, get_or, take, drop, length-append, get_or-append}
 use lib.Seq.{get_or_at}
 use Rattle.octets.specs.Values.{values}
-use Rattle.octets.proofs.Values.{get_d-values, values_more, four}
+use Rattle.octets.proofs.Values.{get_d-values, values_more, values_list, four}
 use Rattle.aes_field.specs.Words.{Column}
-use Rattle.aes.specs.State.{State, column, state_of}
+use Rattle.aes.specs.State.{State, column, state_of, state_from}
 use Rattle.aes.specs.Cipher.{add_column}
 use Rattle.aes.specs.KeyExpansion.{temp, key_word, words, round_key, schedule, next_key, extended}
 use Rattle.aes.specs.KeyExpansion.Inside.{schedule_is}
@@ -105,3 +105,11 @@ extended-schedule key =
 
     second : state_of (λ c. key_word key (4 + c)) ≡ round_key (words key 52) 1
     second = four (at 4 (lit< tt)) (at 5 (lit< tt)) (at 6 (lit< tt)) (at 7 (lit< tt))
+
+-- the first two round keys, by the halves of a key of 32 bytes
+module _ (key : List ℕ) (size : length key ≡ 32) where
+  pub front_key : state_from (take 16 key) ≡ state_of (key_word key)
+  front_key = subst (λ (l : List ℕ). state_from (take 16 l) ≡ state_of (key_word l)) (values_list key 0 32 size) refl
+
+  pub back_key : state_from (drop 16 key) ≡ state_of (λ c. key_word key (4 + c))
+  back_key = subst (λ (l : List ℕ). state_from (drop 16 l) ≡ state_of (λ c. key_word l (4 + c))) (values_list key 0 32 size) refl

@@ -12,13 +12,12 @@ ghost use Rattle.aes.specs.InvCipher.{inv_cipher};
 ghost use Rattle.aes.specs.KeyExpansion.{schedule};
 ghost use Rattle.aes.specs.Calls.{wrong_lengths, encrypt_block, decrypt_block};
 
-use aes_field::sbox_table;
 use aes_state::{State, add_round_key, load, store};
 use backward::all_inv_rounds;
 use forward::{all_rounds, last_round};
 use octets::strings::{Block, first, put};
 use refusals::Refusal;
-use schedule::{extend, first_key, second_key};
+use schedule::extend;
 
 pub type Key = [u8; 32];
 
@@ -36,18 +35,19 @@ pub const LAST_ROUND: usize = 14;
 pub fn expand_key(key: Key) -> RoundKeys
     ensures { result ≡ schedule key }
 {
-    let t = sbox_table();
-    extend(&t, first_key(key), second_key(key))
+    let (front, back) = key.split_at(BLOCK_SIZE);
+    extend(load(first(front)), load(first(back)))
 }
 
+#[tactic(auto, using(crate::specs::Cipher::Inside::cipher_is))]
 pub fn encrypt(ks: RoundKeys, block: Block) -> Block
     ensures { result ≡ cipher ks block }
 {
-    let t = sbox_table();
     let s = add_round_key(load(block), ks[0]);
-    store(last_round(&t, all_rounds(&t, ks, s), ks[LAST_ROUND]))
+    store(last_round(all_rounds(ks, s), ks[LAST_ROUND]))
 }
 
+#[tactic(auto, using(crate::specs::InvCipher::Inside::inv_cipher_is))]
 pub fn decrypt(ks: RoundKeys, block: Block) -> Block
     ensures { result ≡ inv_cipher ks block }
 {

@@ -4,9 +4,13 @@ use mathlib.Core.Path.{refl, ◌∙◌}
 use native.Mathlib.Omega.{arith}
 use borrow.Author.Tests.{ne_eqb}
 use Rattle.aes_field.specs.Field.{xtime, times, inverse}
-use Rattle.aes_field.specs.Laws.{InverseIs, InverseOfZero, UnaffineUndoes, AffineUndoes, InvSboxUndoes, SboxUndoes, InverseBySbox, SboxBytes, InvSboxBytes, InvMixUndoes, MixUndoes}
+use Rattle.aes_field.specs.Laws.{SboxTable, InverseIs, InverseOfZero, UnaffineUndoes, AffineUndoes, InvSboxUndoes, SboxUndoes, InverseBySbox, SboxBytes, InvSboxBytes, InvMixUndoes, MixUndoes}
+use Rattle.aes_field.proofs.Tables as tables
 use Rattle.aes_field.proofs.Inverse as inverses
 use Rattle.aes_field.proofs.Unmix as matrices
+
+pub sbox_table_is : SboxTable
+sbox_table_is = tables.sbox_table_is
 
 pub inverse_is : InverseIs
 inverse_is a above h = inverses.inverse_is a h ∙ rw (ne_eqb a 0 (λ e. omega arith))

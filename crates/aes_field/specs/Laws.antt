@@ -1,8 +1,14 @@
--- What the field's inverse, the S-box and the fixed matrices promise, on all bytes: as statements; proofs/Laws.antt proves each.
+-- What the S-box's table, the field's inverse, the S-box and the fixed matrices promise, on all bytes: as statements; proofs/Laws.antt proves each.
 -- Assumes nothing.
 use Rattle.std.specs.Prelude.{◌≡◌, ℕ, ◌<◌}
+use Rattle.aes_field.specs.declared.sbox.TheConstants.{SBOX}
+use Rattle.aes_field.specs.Tables.{sbox_table}
 use Rattle.aes_field.specs.Field.{times, inverse, affine, unaffine, sbox, inv_sbox}
 use Rattle.aes_field.specs.Words.{column_of, times_matrix, mix_row, inv_mix_row}
+
+-- 5.1.1: the constant table has at each place the S-box of that byte
+abbrev pub SboxTable : Type 0
+SboxTable = SBOX ≡ sbox_table
 
 -- 4.4: a byte other than {00} times its inverse is {01}
 abbrev pub InverseIs : Type 0

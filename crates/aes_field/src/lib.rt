@@ -5,13 +5,9 @@ pub mod inv_sbox;
 mod sbox;
 
 ghost use Rattle.std.specs.Prelude.{◌≡◌};
-ghost use Rattle.aes_field.specs.Field.{xtime};
-ghost use Rattle.aes_field.specs.Tables.{sbox_table};
+ghost use Rattle.aes_field.specs.Field.{xtime, sbox};
 
 use sbox::SBOX;
-
-// For each byte, a byte.
-pub type ByteTable = [u8; 256];
 
 // Times x in the field.
 #[tactic(auto, unfolding(crate::specs::Field::xtime))]
@@ -21,8 +17,9 @@ pub fn double(a: u8) -> u8
     ((a as u16 * 2 % 256) as u8) ^ (a / 128 * 27)
 }
 
-pub fn sbox_table() -> ByteTable
-    ensures { result ≡ sbox_table }
+// 5.1.1: the S-box of a byte.
+pub fn sub(a: u8) -> u8
+    ensures { result ≡ sbox a }
 {
-    SBOX
+    SBOX[a as usize]
 }

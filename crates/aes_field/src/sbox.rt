@@ -1,5 +1,5 @@
-// The S-box (FIPS 197, section 5.1.1).
-pub const SBOX: [u8; 256] = [
+// The S-box (FIPS 197, section 5.1.1). A static stands in one place of memory: a const that code indexes is copied to the stack first.
+pub static SBOX: [u8; 256] = [
     99, 124, 119, 123, 242, 107, 111, 197, 48, 1, 103, 43, 254, 215, 171, 118, 202, 130, 201, 125,
     250, 89, 71, 240, 173, 212, 162, 175, 156, 164, 114, 192, 183, 253, 147, 38, 54, 63, 247, 204,
     52, 165, 229, 241, 113, 216, 49, 21, 4, 199, 35, 195, 24, 150, 5, 154, 7, 18, 128, 226, 235,

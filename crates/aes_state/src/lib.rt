@@ -37,10 +37,7 @@ pub fn load(b: Block) -> State
 pub fn store(s: State) -> Block
     ensures { result ≡ bytes_of s }
 {
-    let p = s[0];
-    let q = s[1];
-    let r = s[2];
-    let t = s[3];
+    let [p, q, r, t] = s;
     [
         p[0], p[1], p[2], p[3], q[0], q[1], q[2], q[3], r[0], r[1], r[2], r[3], t[0], t[1], t[2],
         t[3],
@@ -57,10 +54,7 @@ fn rows_of(a: Column, b: Column, c: Column, d: Column) -> Column
 pub fn shift_rows(s: State) -> State
     ensures { result ≡ shift_rows s }
 {
-    let p = s[0];
-    let q = s[1];
-    let r = s[2];
-    let t = s[3];
+    let [p, q, r, t] = s;
     [
         rows_of(p, q, r, t),
         rows_of(q, r, t, p),
@@ -72,10 +66,7 @@ pub fn shift_rows(s: State) -> State
 pub fn inv_shift_rows(s: State) -> State
     ensures { result ≡ inv_shift_rows s }
 {
-    let p = s[0];
-    let q = s[1];
-    let r = s[2];
-    let t = s[3];
+    let [p, q, r, t] = s;
     [
         rows_of(p, t, r, q),
         rows_of(q, p, t, r),
@@ -89,10 +80,7 @@ pub fn inv_shift_rows(s: State) -> State
 fn mix_column(a: Column) -> Column
     ensures { result ≡ mix_column a }
 {
-    let p = a[0];
-    let q = a[1];
-    let r = a[2];
-    let s = a[3];
+    let [p, q, r, s] = a;
     let p2 = double(p);
     let q2 = double(q);
     let r2 = double(r);
@@ -119,7 +107,7 @@ pub fn mix_columns(s: State) -> State
 // 5.3.3
 
 // A byte times {0e}, {0b}, {0d} and {09}, the entries of the inverse matrix.
-#[derive(Drop)]
+#[derive(Clone, Copy)]
 struct Multiples {
     e: u8,
     b: u8,

@@ -1,18 +1,14 @@
--- `aes::backward::all_inv_rounds` meets its contract: the loop's invariant: undoing the i rounds left gives the result. The measure is i.
+-- `aes::backward::all_inv_rounds` meets its contract: undoing the i rounds left gives the result.
 -- Assumes nothing.
-use mathlib.Core.Path.{refl}
-use native.Mathlib.Omega.{arith}
-use lib.Dec.{lit≤}
+use Rattle.std.proofs.Common.{refl, arith}
 use Rattle.aes.proofs.Rounds.{inv_rounds_less, inv_rounds_end}
 use Rattle.aes.proofs.backward.all_inv_rounds.Goals as goal
 
 pub loop-i-init : goal.loop-i-init
-loop-i-init c = (lit≤ tt, refl)
+loop-i-init c = refl
 
 pub loop-i-preserved : goal.loop-i-preserved
-loop-i-preserved c =
-    (omega arith, inv_rounds_less _ _ _ _ _ c.loop-i-test.true c.loop-i.invariant.1 c.inv_round-u.ensures)
+loop-i-preserved c = inv_rounds_less _ _ _ _ _ c.loop-i-test.true c.loop-i.invariant c.inv_round-next.ensures
 
 pub returns : goal.returns
-returns c =
-    inv_rounds_end _ _ _ _ _ (omega arith) c.loop-i.invariant.1 c.inv_last_round.ensures
+returns c = inv_rounds_end _ _ _ _ _ (omega arith) c.loop-i.invariant c.inv_last_round.ensures

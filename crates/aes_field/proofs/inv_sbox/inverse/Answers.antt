@@ -1,12 +1,8 @@
--- `aes_field::inv_sbox::inverse` meets its contract: the table is the S-box's, and undoing the affine map there gives the inverse.
+-- `aes_field::inv_sbox::inverse` meets its contract: undoing the affine map in the S-box gives the inverse.
 -- Assumes nothing.
-use native.Mathlib.Omega.{arith}
-use Rattle.aes_field.specs.Field.{sbox}
-use Rattle.aes_field.proofs.Tables.{table_of_at}
+use Rattle.std.proofs.Common.{arith}
 use Rattle.aes_field.proofs.Inverse.{unaffine-sbox}
 use Rattle.aes_field.proofs.inv_sbox.inverse.Goals as goal
 
 pub returns : goal.returns
-returns c =
-    let a = c.args.a in
-    rw (c.unaffine.ensures, c.requires, table_of_at sbox a (omega arith)) (unaffine-sbox a (omega arith))
+returns c = rw (c.unaffine.ensures, c.sub.ensures) (unaffine-sbox c.args.a (omega arith))
