@@ -12,7 +12,7 @@ use Rattle.keytable.specs.Row.{row_key_size}
 use Rattle.modes.specs.Calls.{decrypt_answer, verify_number}
 use Rattle.modes.proofs.Numbers.{decrypt_in_range}
 use Rattle.modes.specs.Modes.{mode_of}
-use Rattle.record.specs.Record.{PartsAt, mode_for, mode_in, count_in, name_size_lem, layout_ok, front_in, iv_in, text_in, tag_in}
+use Rattle.record.specs.Record.{name_at, iv_at_lem, text_at_lem, tag_at, mode_for, mode_in, count_in, name_size_lem, layout_ok, front_in, name_in, iv_in, text_in, tag_in}
 use Rattle.record.specs.Read.{passes}
 use Rattle.record.specs.Seal.{callers_max}
 use Rattle.record.specs.Open.{authentic_by, plaintext_by, record_tag_tests, tag_answer}
@@ -22,12 +22,12 @@ use Rattle.record.proofs.Reading.{HeaderAccepted}
 
 -- what the tag decided, by the number that was answered
 module _ (right : Bool) (s out after : List ℕ) (x : ℕ) (e : answer (lowest ((9, not right) ∷ [])) s out ≡ (x, after)) where
-  pub tag_wrong : (x ≡ 0 → ⊥) → (right ≡ false) × (after ≡ out)
+  pub tag_wrong : (x ≡ 0 → ⊥) → (right ≡ false) × (9 ≡ x) × (out ≡ after)
   tag_wrong n = go right e
     where
-      go : (b : Bool) → answer (lowest ((9, not b) ∷ [])) s out ≡ (x, after) → (b ≡ false) × (after ≡ out)
+      go : (b : Bool) → answer (lowest ((9, not b) ∷ [])) s out ≡ (x, after) → (b ≡ false) × (9 ≡ x) × (out ≡ after)
       go true h = absurd (n (sym (ap (λ (z : ℕ × List ℕ). z.0) h)))
-      go false h = (refl, sym (ap (λ (z : ℕ × List ℕ). z.1) h))
+      go false h = (refl, ap (λ (z : ℕ × List ℕ). z.0) h, ap (λ (z : ℕ × List ℕ). z.1) h)
 
   pub tag_was_right : x ≡ 0 → (right ≡ true) × (after ≡ over s out)
   tag_was_right n = go right e
@@ -38,12 +38,12 @@ module _ (right : Bool) (s out after : List ℕ) (x : ℕ) (e : answer (lowest (
 
 -- and with no output
 module _ (right : Bool) (x : ℕ) (e : x ≡ lowest ((9, not right) ∷ [])) where
-  pub tag_nine : (x ≡ 0 → ⊥) → right ≡ false
+  pub tag_nine : (x ≡ 0 → ⊥) → (right ≡ false) × (9 ≡ x)
   tag_nine n = go right e
     where
-      go : (b : Bool) → x ≡ lowest ((9, not b) ∷ []) → b ≡ false
+      go : (b : Bool) → x ≡ lowest ((9, not b) ∷ []) → (b ≡ false) × (9 ≡ x)
       go true h = absurd (n h)
-      go false h = refl
+      go false h = (refl, sym h)
 
   pub tag-zero : x ≡ 0 → right ≡ true
   tag-zero n = go right e
@@ -73,28 +73,33 @@ parts_verified key r a good short key_right aad-short =
 
 -- ---- the parts of a record that was read, cut where its fields say
 
-module _ (r : List ℕ) (u k n : ℕ) {p v x y z : ℕ} (is : HeaderAccepted r u k n) (at : PartsAt u k n p v x y z) {front iv text tag : List ℕ} (ef : front ≡ part_of r 0 p)
-    (ei : iv ≡ part_of r p v) (et : text ≡ part_of r x n) (eg : tag ≡ part_of r y z) (key a : List ℕ) (key_right : length key ≡ row_key_size) (aad-short : length a ≤ callers_max) where
-  front_is : front ≡ front_in r
+module _ (r : List ℕ) (u k n : ℕ) (is : HeaderAccepted r u k n) where
+  pub front_is : part_of r 0 (iv_at_lem k) ≡ front_in r
   unfolding front_in
-  front_is = rw (ef, at.iv_at, is.size_is)
+  front_is = rw is.size_is
 
-  iv_is : iv ≡ iv_in r
+  pub name_is : part_of r name_at k ≡ name_in r
+  unfolding name_in
+  name_is = rw is.size_is
+
+  pub iv_is : part_of r (iv_at_lem k) (mode_of u).iv_size ≡ iv_in r
   unfolding iv_in
-  iv_is = rw (ei, at.iv_at, at.iv-long, is.size_is, is.mode_is)
+  iv_is = rw (is.size_is, is.mode_is)
 
-  text_is : text ≡ text_in r
+  pub text_is : part_of r (text_at_lem (mode_of u) k) n ≡ text_in r
   unfolding text_in
-  text_is = rw (et, at.text_at, is.size_is, is.mode_is, is.count_is)
+  text_is = rw (is.size_is, is.mode_is, is.count_is)
 
-  tag_is : tag ≡ tag_in r
+  pub tag_is : part_of r (tag_at (mode_of u) k n) (mode_of u).tag_size ≡ tag_in r
   unfolding tag_in
-  tag_is = rw (eg, at.tag-at, at.tag-long, is.size_is, is.mode_is, is.count_is)
+  tag_is = rw (is.size_is, is.mode_is, is.count_is)
 
-  pub fields-opened : (out : List ℕ) → n ≤ length out → {w : ℕ × List ℕ} → decrypt_answer (mode_of u) key iv front a text tag out ≡ w → tag_answer key r a out ≡ w
-  fields-opened out room ran =
-      sym (parts-opened key r a out is.layout is.short key_right aad-short (omega (arith, is.count_is)))
-      ∙ rw (← front_is, ← iv_is, ← text_is, ← tag_is, ← is.mode_is) ran
+  module _ {front iv text tag : List ℕ} (ef : front ≡ front_in r) (ei : iv ≡ iv_in r) (et : text ≡ text_in r) (eg : tag ≡ tag_in r) (key a : List ℕ)
+      (key_right : length key ≡ row_key_size) (aad-short : length a ≤ callers_max) where
+    pub fields-opened : (out : List ℕ) → n ≤ length out → {w : ℕ × List ℕ} → decrypt_answer (mode_of u) key iv front a text tag out ≡ w → tag_answer key r a out ≡ w
+    fields-opened out room ran =
+        sym (parts-opened key r a out is.layout is.short key_right aad-short (omega (arith, is.count_is)))
+        ∙ rw (← ef, ← ei, ← et, ← eg, ← is.mode_is) ran
 
-  pub fields_verified : {w : ℕ} → w ≡ verify_number (mode_of u) key iv front a text tag → w ≡ lowest (record_tag_tests key r a)
-  fields_verified ran = (rw (front_is, iv_is, text_is, tag_is, is.mode_is) at ran) ∙ parts_verified key r a is.layout is.short key_right aad-short
+    pub fields_verified : {w : ℕ} → w ≡ verify_number (mode_of u) key iv front a text tag → w ≡ lowest (record_tag_tests key r a)
+    fields_verified ran = (rw (ef, ei, et, eg, is.mode_is) at ran) ∙ parts_verified key r a is.layout is.short key_right aad-short

@@ -1,21 +1,19 @@
 -- Demand 3 (specs/Demand3.antt) and the laws of specs/Laws.antt.
 -- Assumes nothing.
 use mathlib.Core.Path.{◌≡◌, refl, sym, ap, ◌∙◌}
-use mathlib.Core.List.{List}
+use mathlib.Core.List.{List, [], ◌∷◌}
 use Prim.Native.Nat.{ℕ, ◌+◌}
 use native.Mathlib.Omega.{arith}
-use lib.Dec.{eqb}
 use lib.ListN.{length, get_or}
-use Rattle.octets.specs.Lent.{when}
 use Rattle.octets.specs.Bytes.{Bytes}
 use Rattle.octets.proofs.Lent.{over_injective}
-use Rattle.octets.proofs.Unique.{unique, unique-by}
+use Rattle.octets.proofs.Unique.{unique}
 use Rattle.keytable.specs.Row.{Row}
 use Rattle.keytable.specs.Table.{table_ok, data_row}
 use Rattle.keytable.proofs.Laws.{kek-row_more}
 use Rattle.modes.proofs.Named.{each_mode}
 use Rattle.record.specs.Record.{end_at, end_in, name_in, iv_in}
-use Rattle.record.specs.Read.{header_says, header_number, header_answer}
+use Rattle.record.specs.Read.{header_number}
 use Rattle.record.specs.Seal.{seal_answer}
 use Rattle.record.specs.Open.{plaintext_by, open_number, open_answer}
 use Rattle.record.specs.Demand3.{OpensExactly, OnePlaintext, OneOpening, ElseRefuses, SealedOpens}
@@ -23,7 +21,7 @@ use Rattle.record.specs.Laws.{HeaderThere, HeaderBack, EndSum, SealOtherRows, Op
 use Rattle.record.specs.Laws.{HeaderUnique, EndUnique, RecordCheckUnique, SealUnique, RecordOpenUnique}
 use Rattle.record.specs.Laws.{HeaderTestsRise, SealTestsRise, RecordTagTestsRise, OpenTestsRise}
 use Rattle.record.specs.declared.header.Header.{Header}
-use Rattle.record.specs.declared.header.Header.TheVariants.{Fields, BadForm, BadMode, TooLong}
+use Rattle.refusals.proofs.Laws.{says_same}
 use Rattle.record.proofs.Written.{read_back, front_back}
 use Rattle.record.proofs.Laid.{Laid}
 use Rattle.record.proofs.Sealed.{text_by, tag_by, SealedAs, as_keyed, seals_as, as_seals, as_laid}
@@ -122,21 +120,11 @@ open_beside_kek t u row r a out count ok-t ok-u more kek =
 
 -- ---- one answer
 
--- a header is known from what it says
-header_in : ℕ × List ℕ → Header
-header_in x =
-    when (eqb x.0 0) (Fields (get_or x.1 0 0) (get_or x.1 1 0) (get_or x.1 2 0))
-    (when (eqb x.0 2) BadForm (when (eqb x.0 3) BadMode TooLong))
-
-header_in_says : (h : Header) → header_in (header_says h) ≡ h
-unfolding header_in
-header_in_says (Fields u k n) = refl
-header_in_says BadForm = refl
-header_in_says BadMode = refl
-header_in_says TooLong = refl
-
 pub header_unique : HeaderUnique
-header_unique r = unique-by header_says header_in header_in_says (header_answer r)
+header_unique r x y p q = says_same (λ (h : Header). h.mode ∷ h.k ∷ h.n ∷ []) same x y (p ∙ sym q)
+  where
+    same : (a b : Header) → ◌≡◌ {A = List ℕ} (a.mode ∷ a.k ∷ a.n ∷ []) (b.mode ∷ b.k ∷ b.n ∷ []) → a ≡ b
+    same a b e = ap (λ (l : List ℕ). record { mode = get_or l 0 0; k = get_or l 1 0; n = get_or l 2 0 }) e
 
 pub end_unique : EndUnique
 end_unique r = unique (end_in r)

@@ -13,7 +13,7 @@ use Rattle.octets.specs.Lent.{over}
 use Rattle.keytable.specs.Row.{row_key_size, data_type}
 use Rattle.keytable.specs.Table.{table_ok, data_row, row_at}
 use Rattle.keytable.specs.Find.{place_of, row_found}
-use Rattle.keytable.specs.declared.Found.TheVariants.{At}
+use Rattle.std.specs.Prelude.{Ok}
 use Rattle.keytable.proofs.Laws.{finds-row, found_key}
 use Rattle.keytable.proofs.Places.{says_same}
 use Rattle.record.specs.Record.{mode_in, count_in, name_in}
@@ -33,7 +33,7 @@ module _ {t r a : List ℕ} {room at u k n : ℕ} (ready : ReadyAt t r a room at
   ready_key = found_key t data_type (name_in r) at ready.found
 
   looked : row_looked t r ≡ some (row_at t at)
-  looked = ap (row_found t) (sym (says_same (At at) (place_of t data_type (name_in r)) (sym ready.found)))
+  looked = ap (row_found t) (sym (says_same (Ok at) (place_of t data_type (name_in r)) (sym ready.found)))
 
   measured : OpenMeasured true r a room
   measured =

@@ -3,7 +3,7 @@
 use mathlib.Core.Path.{◌≡◌, ap, ◌∙◌}
 use mathlib.Core.Bool.{true, ◌&&◌, and-true}
 use mathlib.Core.List.{List, ◌++◌}
-use Prim.Native.Nat.{ℕ, ◌+◌, ◌≤◌}
+use Prim.Native.Nat.{ℕ, ◌≤◌}
 use native.Mathlib.Omega.{arith}
 use borrow.Author.Tests.{eqb-true, eq-eqb, leb-true, le-leb}
 use lib.Dec.{eqb, leb}
@@ -14,7 +14,7 @@ use Rattle.octets.proofs.Bytes.{bytes_take, bytes_drop}
 use Rattle.octets.proofs.Tests.{every_at, length_part, parts_whole}
 use Rattle.modes.specs.Modes.{mode_of}
 use Rattle.modes.proofs.Laws.{modes_permit}
-use Rattle.record.specs.Record.{record_format, name_at, iv_at_lem, text_at_lem, tag_at, mode_in, count_in, name_size_lem}
+use Rattle.record.specs.Record.{record_format, name_at, iv_at_lem, text_at_lem, tag_at, end_at, mode_in, count_in, name_size_lem}
 use Rattle.record.specs.Record.{mode_for, end_in, layout_tests, layout_ok, front_in, name_in, iv_in, text_in, tag_in}
 
 -- each word of the header and the end, as the layout has them
@@ -67,18 +67,15 @@ kept_layout r h =
 
 -- ---- from the numbers that were read
 
-pub end_told : (r : List ℕ) (u k v n tag-place g : ℕ)
-    → u ≡ mode_in r → k ≡ name_size_lem r → v ≡ (mode_of u).iv_size → n ≡ count_in r → tag-place ≡ iv_at_lem k + v + n → g ≡ (mode_of u).tag_size → tag-place + g ≡ end_in r
-end_told r u k v n tag-place g eu ek ev en et eg = rw (et, eg, ev, eu, ek, en)
-
--- the tests one after another; both modes permit every count
-pub layout_tested : (r : List ℕ) (u v n k tag-place end-place a b c d e f h : ℕ)
-    → u ≡ mode_in r → v ≡ (mode_of u).iv_size → n ≡ count_in r → k ≡ name_size_lem r → tag-place ≡ iv_at_lem k + v + n → end-place ≡ end_in r
+-- the tests one after another, of the fields, the places and the words; both modes permit every count
+pub layout_tested : (r : List ℕ) (u k n iv iv-size text tag end a b c d e f h : ℕ)
+    → u ≡ mode_in r → k ≡ name_size_lem r → n ≡ count_in r → iv ≡ iv_at_lem k → iv-size ≡ (mode_of u).iv_size → text ≡ text_at_lem (mode_of u) k
+    → tag ≡ tag_at (mode_of u) k n → end ≡ end_at (mode_of u) k n
     → a ≡ number_at 2 r 0 → b ≡ get_or r 3 0 → c ≡ number_at 2 r 8 → d ≡ number_at 2 r 12 → e ≡ number_at 2 r 14 → f ≡ number_at 4 r 16 → h ≡ number_at 4 r 20
-    → (eqb a record_format && eqb b 0 && eqb c name_at && leb 1 k && eqb d (iv_at_lem k) && eqb e v && eqb f (iv_at_lem k + v) && eqb h tag-place && eqb (length r) end-place) ≡ layout_ok r
+    → (eqb a record_format && eqb b 0 && eqb c name_at && leb 1 k && eqb d iv && eqb e iv-size && eqb f text && eqb h tag && eqb (length r) end) ≡ layout_ok r
 unfolding layout_ok
-layout_tested r u v n k tag-place end-place a b c d e f h eu ev en ek et ez ea eb ec ed ee ef eh =
-    rw (et, ez, ev, eu, en, ek, ea, eb, ec, ed, ee, ef, eh, modes_permit (mode_in r) (count_in r), and-true)
+layout_tested r u k n iv iv-size text tag end a b c d e f h eu ek en ei ev ex et ez ea eb ec ed ee ef eh =
+    rw (ei, ev, ex, et, ez, eu, ek, en, ea, eb, ec, ed, ee, ef, eh, modes_permit (mode_in r) (count_in r), and-true)
 
 -- ---- the parts
 

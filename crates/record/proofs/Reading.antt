@@ -18,6 +18,10 @@ use Rattle.record.specs.Open.{open_number}
 use Rattle.record.proofs.Lengths.{name_within, count_within}
 use Rattle.record.proofs.OpenNumbers.{number_two, number_three, number_four}
 use Rattle.record.specs.declared.header.Header.{Header}
+use Rattle.std.specs.Prelude.{Result, Err}
+use Rattle.refusals.specs.Numbers.{number_of}
+use Rattle.refusals.specs.declared.Refusal.{Refusal}
+use Rattle.refusals.proofs.Laws.{not_zero}
 
 module _ (r : List ℕ) where
   pub header_two : layout_ok r ≡ false → header_answer r ≡ (2, [])
@@ -37,7 +41,7 @@ module _ (r : List ℕ) where
   unfolding header_answer header_number
   header-zero e f g = rw (e, f, g)
 
-  pub header-number : (h : Header) → header_says h ≡ header_answer r → (header_says h).0 ≡ header_number r
+  pub header-number : (h : Result Header Refusal) → header_says h ≡ header_answer r → (header_says h).0 ≡ header_number r
   unfolding header_answer
   header-number h e = ap (λ (x : ℕ × List ℕ). x.0) e
 
@@ -81,16 +85,15 @@ fields_within r u k n is =
 
 -- ---- a record that reading refuses, opened
 
-pub number_unread : (row : Option Row) (r a : List ℕ) (room : ℕ) (h : Header) → header_says h ≡ header_answer r → ((header_says h).0 ≡ 0 → ⊥)
-    → open_number true row r a room ≡ (header_says h).0
+pub number_unread : (row : Option Row) (r a : List ℕ) (room : ℕ) (e : Refusal) → header_says (Err e) ≡ header_answer r → open_number true row r a room ≡ number_of e
 unfolding header_number
-number_unread row r a room h e never = go (layout_ok r) (names_mode (mode_in r)) (passes (name_size_lem r) (count_in r)) refl refl refl
+number_unread row r a room e told = go (layout_ok r) (names_mode (mode_in r)) (passes (name_size_lem r) (count_in r)) refl refl refl
   where
-    number : (n : ℕ) → header_number r ≡ n → (header_says h).0 ≡ n
-    number n is = header-number r h e ∙ is
+    number : (n : ℕ) → header_number r ≡ n → number_of e ≡ n
+    number n is = header-number r (Err e) told ∙ is
 
-    go : (x y z : Bool) → layout_ok r ≡ x → names_mode (mode_in r) ≡ y → passes (name_size_lem r) (count_in r) ≡ z → open_number true row r a room ≡ (header_says h).0
+    go : (x y z : Bool) → layout_ok r ≡ x → names_mode (mode_in r) ≡ y → passes (name_size_lem r) (count_in r) ≡ z → open_number true row r a room ≡ number_of e
     go false y z ex ey ez = number_two true row r a room refl ex ∙ sym (number 2 (rw ex))
     go true false z ex ey ez = number_three true row r a room refl ex ey ∙ sym (number 3 (rw (ex, ey)))
     go true true true ex ey ez = number_four true row r a room refl ex ey (rw ez) ∙ sym (number 4 (rw (ex, ey, ez)))
-    go true true false ex ey ez = absurd (never (number 0 (rw (ex, ey, ez))))
+    go true true false ex ey ez = absurd (not_zero e (sym (number 0 (rw (ex, ey, ez)))))

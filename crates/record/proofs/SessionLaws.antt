@@ -1,6 +1,9 @@
 -- The laws of sealing with a session (specs/Laws.antt).
 -- Assumes nothing.
-use mathlib.Core.Path.{◌≡◌, refl, sym, ap, ◌∙◌}
+use mathlib.Core.Path.{◌≡◌, refl, sym, ap, ap₂, ◌∙◌}
+use Rattle.std.specs.Prelude.{Result, Ok, Err}
+use Rattle.refusals.specs.declared.Refusal.{Refusal}
+use Rattle.refusals.proofs.Laws.{not_zero, number_unique}
 use mathlib.Core.Bool.{Bool, true, false}
 use mathlib.Core.List.{List, ◌++◌, append_assoc}
 use mathlib.Core.Option.{Option}
@@ -12,7 +15,7 @@ use lib.ListN.{length, take, drop, length-append}
 use lib.Seq.{take-append-add}
 use Rattle.octets.specs.Lent.{when, over}
 use Rattle.octets.proofs.Tests.{part_at}
-use Rattle.octets.proofs.Unique.{unique, unique-by}
+use Rattle.octets.proofs.Unique.{unique}
 use Rattle.keytable.specs.Row.{name_max, Row}
 use Rattle.keytable.specs.Table.{table_ok, data_row}
 use Rattle.keytable.proofs.Laws.{kek-row_more}
@@ -164,7 +167,14 @@ records-differ s lent i j below hi hj e = run_differs (seal_before lent s) _ (ca
 -- ---- one answer
 
 pub seal-by_unique : SealByUnique
-seal-by_unique s t name a p out = unique-by sealed_says (λ (z : SessionAnswer). (record { number = z.0; session = z.2 }, z.1)) (λ x. refl) (seal_next_answer s t name a p out)
+seal-by_unique s t name a p out x y e f = same x y (e ∙ sym f)
+  where
+    same : (x y : Result Session Refusal × List ℕ) → sealed_says s x ≡ sealed_says s y → x ≡ y
+    same (Ok a, l) (Ok b, m) h = ap₂ (λ (t : Session) (k : List ℕ). (Ok t, k)) (ap (λ (z : SessionAnswer). z.2) h) (ap (λ (z : SessionAnswer). z.1) h)
+    same (Ok a, l) (Err d, m) h = absurd (not_zero d (ap (λ (z : SessionAnswer). z.0) h))
+    same (Err d, l) (Ok b, m) h = absurd (not_zero d (sym (ap (λ (z : SessionAnswer). z.0) h)))
+    same (Err d, l) (Err g, m) h =
+        ap₂ (λ (r : Refusal) (k : List ℕ). (Err r, k)) (number_unique d g (ap (λ (z : SessionAnswer). z.0) h)) (ap (λ (z : SessionAnswer). z.1) h)
 
 pub seal_next_unique : SealNextUnique
 seal_next_unique s t name a p out = unique (seal_next_answer s t name a p out)

@@ -10,24 +10,22 @@ use borrow.Author.Tests.{le-ltb}
 use lib.Dec.{eqb, ltb}
 use lib.ListN.{length, replicate, length-replicate}
 use Rattle.octets.specs.Lent.{when}
-use Rattle.octets.proofs.Unique.{unique, unique-by}
+use Rattle.octets.proofs.Unique.{unique}
 use Rattle.keytable.specs.Row.{data_type, Row}
 use Rattle.keytable.specs.Table.{table_ok, data_row}
 use Rattle.keytable.specs.Calls.{missing, use_in}
 use Rattle.keytable.specs.Find.{place_of, found_says, found_answer, row_found}
-use Rattle.keytable.specs.declared.Found.{Found}
-use Rattle.keytable.specs.declared.Found.TheVariants.{At, Nothing, Broken}
+use Rattle.std.specs.Prelude.{Result, Ok, Err}
+use Rattle.refusals.specs.declared.Refusal.{Refusal}
 use Rattle.keytable.proofs.Laws.{kek-row_more}
 use Rattle.keytable.proofs.Places.{says_same}
 use Rattle.modes.specs.Modes.{names_mode}
 use Rattle.record.specs.Record.{mode_in, count_in, name_size_lem, layout_ok, name_in, iv_in}
 use Rattle.record.specs.Read.{passes}
 use Rattle.record.specs.Seal.{callers_max}
-use Rattle.record.specs.Open.{authentic_in, open_number, verify_answer, row_looked, opened_number, opened_at, opening_says}
+use Rattle.record.specs.Open.{authentic_in, open_number, verify_answer, row_looked, opened_number, opened_at}
 use Rattle.record.specs.Laws.{VerifyAsOpening, SomeSeals, VerifyExactly, SomeOpens, VerifyOpens, VerifyNotFive, OpenedVerifies, OpenedByRow, OpenedPlaced, VerifyOtherRows, VerifyBesideKek}
 use Rattle.record.specs.Laws.{RecordVerifyUnique, OpenedByUnique}
-use Rattle.record.specs.declared.opening.Opening.{Opening}
-use Rattle.record.specs.declared.opening.Opening.TheVariants.{By, Refused}
 use Rattle.record.proofs.Opened.{open_row_lem, open-number, some-opened, opens_size, as-opens}
 use Rattle.record.proofs.OpenReady.{row-looked, opened_as_verified}
 use Rattle.record.proofs.Laws.{opens_exactly}
@@ -96,10 +94,9 @@ pub opened_verifies : OpenedVerifies
 opened_verifies t r a ok = opened_as_verified t r a ok
 
 -- a lookup that gives a place gives 0
-placed : (f : Found) (place : ℕ) → (found_says f).1 ≡ place ∷ [] → found_says f ≡ (0, place ∷ [])
-placed (At i) place h = ap (λ (l : List ℕ). (0, l)) h
-placed Nothing place h = absurd (nil≢cons h)
-placed Broken place h = absurd (nil≢cons h)
+placed : (f : Result ℕ Refusal) (place : ℕ) → (found_says f).1 ≡ place ∷ [] → found_says f ≡ (0, place ∷ [])
+placed (Ok i) place h = ap (λ (l : List ℕ). (0, l)) h
+placed (Err e) place h = absurd (nil≢cons h)
 
 -- the place is the one that the lookup gives
 pub opened_found : (t r a : List ℕ) (place : ℕ) → opened_at t r a ≡ (0, place ∷ []) → found_answer t data_type (name_in r) ≡ (0, place ∷ [])
@@ -108,7 +105,7 @@ opened_found t r a place e = placed (place_of t data_type (name_in r)) place (rw
 
 pub opened-by-row : OpenedByRow
 opened-by-row t r a place ok e =
-    row-looked t r ok ∙ ap (row_found t) (sym (says_same (At place) (place_of t data_type (name_in r)) (sym (opened_found t r a place e))))
+    row-looked t r ok ∙ ap (row_found t) (sym (says_same (Ok place) (place_of t data_type (name_in r)) (sym (opened_found t r a place e))))
 
 -- 0 comes with a place
 pub opened-placed : OpenedPlaced
@@ -118,10 +115,9 @@ opened-placed t r a e = go (place_of t data_type (name_in r)) refl
     none-opens : row_looked t r ≡ none → ⊥
     none-opens h = let (row, has) = open_row_lem true r a (count_in r) (row_looked t r) e in let z : ◌≡◌ {A = ℕ} 0 1 = cc in absurd (omega arith)
 
-    go : (f : Found) → place_of t data_type (name_in r) ≡ f → (opened_at t r a).1 ≡ [] → ⊥
-    go (At i) is h = let here : (opened_at t r a).1 ≡ i ∷ [] = rw (e, is) in nil≢cons (sym h ∙ here)
-    go Nothing is h = none-opens (ap (row_found t) is)
-    go Broken is h = none-opens (ap (row_found t) is)
+    go : (f : Result ℕ Refusal) → place_of t data_type (name_in r) ≡ f → (opened_at t r a).1 ≡ [] → ⊥
+    go (Ok i) is h = let here : (opened_at t r a).1 ≡ i ∷ [] = rw (e, is) in nil≢cons (sym h ∙ here)
+    go (Err x) is h = none-opens (ap (row_found t) is)
 
 -- ---- other rows
 
@@ -136,18 +132,5 @@ verify_beside_kek t u row r a ok-t ok-u more kek = verify_other-rows u t r a ok-
 pub record_verify_unique : RecordVerifyUnique
 record_verify_unique t r a = unique (verify_answer t r a)
 
--- the case that an answer tells of
-opening_in : ℕ × List ℕ → Opening
-opening_in x = case_of x.1
-  where
-    case_of : List ℕ → Opening
-    case_of [] = Refused x.0
-    case_of (i ∷ is) = By i
-
-opening_in_says : (o : Opening) → opening_in (opening_says o) ≡ o
-unfolding opening_in
-opening_in_says (By i) = refl
-opening_in_says (Refused n) = refl
-
 pub opened-by_unique : OpenedByUnique
-opened-by_unique t r a = unique-by opening_says opening_in opening_in_says (opened_at t r a)
+opened-by_unique t r a x y p q = says_same x y (p ∙ sym q)

@@ -262,7 +262,7 @@ abbrev pub OpenedByUnique : Type 0
 OpenedByUnique = (t r a : List ℕ) → UniqueBy opening_says (opened_at t r a)
 
 abbrev pub SealByUnique : Type 0
-SealByUnique = (s : Session) (t name a p out : List ℕ) → UniqueBy sealed_says (seal_next_answer s t name a p out)
+SealByUnique = (s : Session) (t name a p out : List ℕ) → UniqueBy (sealed_says s) (seal_next_answer s t name a p out)
 
 abbrev pub SealNextUnique : Type 0
 SealNextUnique = (s : Session) (t name a p out : List ℕ) → Unique (seal_next_answer s t name a p out)

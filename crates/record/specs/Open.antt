@@ -1,8 +1,10 @@
 -- Opening (document 01, "Record"): the row of the record's own name, by its whole; "opening fills the first n". The count n is answered too.
 -- Assumes nothing.
-use Rattle.std.specs.Prelude.{◌≡◌, ℕ, ◌≤◌, Bool, true, false, not, ◌||◌, List, [], ◌∷◌, ◌++◌, length, eqb, ltb}
+use Rattle.std.specs.Prelude.{◌≡◌, ℕ, ◌≤◌, Bool, true, false, not, ◌||◌, List, [], ◌∷◌, ◌++◌, length, eqb, ltb, Result, Ok, Err}
 use Rattle.std.proofs.Math.Option.{Option, some, none}
 use Rattle.octets.specs.Lent.{Tests, lowest, kept, answer}
+use Rattle.refusals.specs.Numbers.{number_of, outcome_says}
+use Rattle.refusals.specs.declared.Refusal.{Refusal}
 use Rattle.keytable.specs.Row.{data_type, Row}
 use Rattle.keytable.specs.Table.{table_ok, data_row, row_at}
 use Rattle.keytable.specs.Calls.{missing, use_in}
@@ -11,12 +13,7 @@ use Rattle.modes.specs.Modes.{names_mode}
 use Rattle.record.specs.Record.{mode_for, mode_in, count_in, name_size_lem, layout_ok, front_in, name_in, iv_in, text_in, tag_in}
 use Rattle.record.specs.Read.{passes, header_answer}
 use Rattle.record.specs.Seal.{callers_max}
-use Rattle.record.specs.declared.opening.OpenReady.{OpenReady}
-use Rattle.record.specs.declared.opening.OpenReady.TheVariants.{At}
-use Rattle.record.specs.declared.opening.OpenReady.TheVariants as R
-use Rattle.record.specs.declared.opening.Opening.{Opening}
-use Rattle.record.specs.declared.opening.Opening.TheVariants.{By}
-use Rattle.record.specs.declared.opening.Opening.TheVariants as O
+use Rattle.record.specs.declared.opening.Ready.{Ready}
 
 -- whether the tag is right by a key, and the plaintext
 unfoldable pub authentic_by : List ℕ → List ℕ → List ℕ → Bool
@@ -79,13 +76,9 @@ pub record ReadyAt (t r a : List ℕ) (room at u k n : ℕ) : Type 0 where
   pub same_use : (row_at t at).row_use ≡ u
 
 -- or one is not, and gives opening's number
-abbrev pub TestsFind : List ℕ → List ℕ → List ℕ → ℕ → OpenReady → Type 0
-TestsFind t r a room (At at u k n) = ReadyAt t r a room at u k n
-TestsFind t r a room (R.Refused x) = (open_number true (row_looked t r) r a room ≡ x) × (x ≡ 0 → ⊥)
-
-abbrev pub found_number : OpenReady → ℕ
-found_number (At at u k n) = 0
-found_number (R.Refused x) = x
+abbrev pub TestsFind : List ℕ → List ℕ → List ℕ → ℕ → Result Ready Refusal → Type 0
+TestsFind t r a room (Ok x) = ReadyAt t r a room x.at x.record.header.mode x.record.header.k x.record.header.n
+TestsFind t r a room (Err e) = (open_number true (row_looked t r) r a room ≡ number_of e) × (number_of e ≡ 0 → ⊥)
 
 -- ---- verification: opening's number where there is room for the plaintext
 
@@ -99,6 +92,5 @@ opened_number t r a = open_number true (row_looked t r) r a (count_in r)
 unfoldable pub opened_at : List ℕ → List ℕ → List ℕ → ℕ × List ℕ
 opened_at t r a = (opened_number t r a, kept (opened_number t r a) (found_answer t data_type (name_in r)).1 [])
 
-abbrev pub opening_says : Opening → ℕ × List ℕ
-opening_says (By i) = (0, i ∷ [])
-opening_says (O.Refused n) = (n, [])
+abbrev pub opening_says : Result ℕ Refusal → ℕ × List ℕ
+opening_says = outcome_says (λ i. i ∷ [])

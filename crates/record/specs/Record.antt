@@ -1,9 +1,8 @@
 -- The record of document 01 ("Record"): its layout, its parts, and the bytes before its IV.
 -- Assumes nothing.
-use Rattle.std.specs.Prelude.{◌≡◌, ℕ, ◌+◌, Bool, List, [], ◌∷◌, ◌++◌, length, get_or, eqb, leb}
+use Rattle.std.specs.Prelude.{ℕ, ◌+◌, Bool, List, [], ◌∷◌, ◌++◌, length, get_or, eqb, leb}
 use Rattle.octets.specs.BigEndian.{be, number_at}
 use Rattle.octets.specs.Tests.{every, part_of}
-use Rattle.keytable.specs.Row.{name_max}
 use Rattle.modes.specs.Mode.{Mode}
 use Rattle.modes.specs.Modes.{mode_of}
 
@@ -18,10 +17,6 @@ name_at = 24
 abbrev pub iv_at_lem : ℕ → ℕ
 iv_at_lem k = name_at + k
 
--- the most that stands before the IV
-abbrev pub front_max : ℕ
-front_max = iv_at_lem name_max
-
 abbrev pub text_at_lem : Mode → ℕ → ℕ
 text_at_lem m k = iv_at_lem k + m.iv_size
 
@@ -30,14 +25,6 @@ tag_at m k n = text_at_lem m k + n
 
 abbrev pub end_at : Mode → ℕ → ℕ → ℕ
 end_at m k n = tag_at m k n + m.tag_size
-
--- the places of the parts after the name, and how long the IV and the tag are
-pub record PartsAt (u k n iv ivlong text tag taglong : ℕ) : Type 0 where
-  pub iv_at : iv ≡ iv_at_lem k
-  pub iv-long : ivlong ≡ (mode_of u).iv_size
-  pub text_at : text ≡ text_at_lem (mode_of u) k
-  pub tag-at : tag ≡ tag_at (mode_of u) k n
-  pub tag-long : taglong ≡ (mode_of u).tag_size
 
 -- ---- read: "4-7 plaintext count n", "10-11 name length k"
 

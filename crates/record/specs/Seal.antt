@@ -4,15 +4,13 @@ use Rattle.std.specs.Prelude.{◌≡◌, ℕ, ◌≤◌, Bool, true, not, ◌||�
 use Rattle.std.proofs.Math.Option.{Option, some, none}
 use Rattle.octets.specs.Lent.{Tests, is_not, lowest, kept, answer}
 use Rattle.keytable.specs.Row.{name_max, row_key_size, Row}
-use Rattle.keytable.specs.Table.{table_ok, data_row, row_at}
+use Rattle.keytable.specs.Table.{table_ok, data_row}
 use Rattle.keytable.specs.Calls.{missing, use_in}
 use Rattle.modes.specs.Mode.{sealed}
 use Rattle.modes.specs.Calls.{text_max}
 use Rattle.modes.specs.Modes.{mode_of}
 use Rattle.record.specs.Record.{end_at, record_front}
 use Rattle.record.specs.Read.{passes}
-use Rattle.record.specs.declared.sealing.SealReady.{SealReady}
-use Rattle.record.specs.declared.sealing.SealReady.TheVariants.{At, Refused}
 
 -- "Caller's associated data 0 to 4,096"
 abbrev pub callers_max : ℕ
@@ -54,15 +52,7 @@ seal_tests ok row name iv a n room =
 unfoldable pub seal_number : Bool → Option Row → List ℕ → List ℕ → List ℕ → ℕ → ℕ → ℕ
 seal_number ok row name iv a n room = lowest (seal_tests ok row name iv a n room)
 
--- the tests by themselves: each case's number, and the row that comes with 0
-abbrev pub ready_number : SealReady → ℕ
-ready_number (At i) = 0
-ready_number (Refused n) = n
-
-abbrev pub ready_row : List ℕ → SealReady → Option Row
-ready_row t (At i) = some (row_at t i)
-ready_row t (Refused n) = none
-
+-- the tests by themselves: a number, and the row that comes with 0
 unfoldable pub ready_by : Bool → Option Row → List ℕ → List ℕ → List ℕ → ℕ → ℕ → ℕ × Option Row
 ready_by ok row name iv a n room = (seal_number ok row name iv a n room, kept (seal_number ok row name iv a n room) row none)
 

@@ -1,78 +1,108 @@
 // A record's header, read and written. Sums are made in 64 bits, so that no count makes them come round.
-ghost use Rattle.std.specs.Prelude.{◌≡◌, ◌+◌, ◌^◌, ◌≤◌, ◌<◌, length, replicate};
-ghost use Rattle.octets.specs.Lent.{over};
+ghost use Rattle.std.specs.Prelude.{◌≡◌, ◌^◌, ◌≤◌, ◌<◌};
+ghost use Rattle.refusals.specs.Numbers.{outcome_number};
 ghost use Rattle.keytable.specs.Row.{name_max};
 ghost use Rattle.modes.specs.Calls.{text_max};
-ghost use Rattle.record.specs.Record.{front_max, mode_in, end_in, layout_ok, header, record_front};
+ghost use Rattle.modes.specs.Modes.{mode_of};
+ghost use Rattle.record.specs.Record.{iv_at_lem, text_at_lem, tag_at, end_at, mode_in, count_in, name_size_lem, end_in, layout_ok, header};
 ghost use Rattle.record.specs.Read.{passes, header_says, header_number, header_answer};
 
 use crate::sizes::{
-    COUNT_AT, FORMAT_AT, FRONT_MAX, IV_LENGTH_AT, IV_OFFSET_AT, MODE_AT, NAME_AT, NAME_LENGTH_AT,
-    NAME_MAX, NAME_OFFSET_AT, RECORD_FORMAT, TAG_OFFSET_AT, TEXT_MAX, TEXT_OFFSET_AT, ZERO_AT,
+    COUNT_AT, FORMAT_AT, IV_LENGTH_AT, IV_OFFSET_AT, MODE_AT, NAME_AT, NAME_LENGTH_AT, NAME_MAX,
+    NAME_OFFSET_AT, RECORD_FORMAT, TAG_OFFSET_AT, TEXT_MAX, TEXT_OFFSET_AT, ZERO_AT,
 };
 use modes::{iv_size, names_mode, tag_size};
 use octets::big_endian::{bytes16, bytes32, read8, read16, read32};
-use octets::strings::put_both;
+use refusals::Refusal;
 
-// What reading a record's header finds.
-#[derive(Drop)]
-pub enum Header {
-    Fields { mode: u8, k: usize, n: usize },
-    BadForm,
-    BadMode,
-    TooLong,
+// The fields of a header that decide where all stands: the mode, the length of the name and the count of the plaintext.
+#[derive(Clone, Copy, Debug, PartialEq, Eq)]
+pub struct Header {
+    pub mode: u8,
+    pub k: usize,
+    pub n: usize,
 }
 
-// The record's mode, 0 where there is no such byte.
-fn mode_in(r: &[u8]) -> u8
-    ensures { result ≡ mode_in r.now }
-{
-    if r.len() <= MODE_AT {
-        return 0;
+// Where the parts after the name begin, and where the record ends.
+#[derive(Clone, Copy)]
+pub(crate) struct Places {
+    pub(crate) iv: usize,
+    pub(crate) text: usize,
+    pub(crate) tag: usize,
+    pub(crate) end: usize,
+}
+
+impl Header {
+    // The fields that a record has, whatever its header holds beside them; past its end they are 0.
+    fn of(r: &[u8]) -> Header
+        ensures mode { result.mode ≡ mode_in r.now }
+        ensures name { (result.k ≡ name_size_lem r.now) × (result.k < 2 ^ 16) }
+        ensures count { (result.n ≡ count_in r.now) × (result.n < 2 ^ 32) }
+    {
+        Header {
+            mode: read8(r, MODE_AT) as u8,
+            k: read16(r, NAME_LENGTH_AT),
+            n: read32(r, COUNT_AT),
+        }
     }
-    r[MODE_AT]
-}
 
-// The place of the tag, n bytes after that of the ciphertext: a 32-bit sum would come round where n is FFFFFFFFh.
-fn tag_place(text: usize, n: usize) -> usize
-    requires { (text < 2 ^ 17) × (n < 2 ^ 32) }
-    ensures { (result ≡ text + n) × (result < 2 ^ 17 + 2 ^ 32) }
-{
-    text + n
+    // A 32-bit sum would come round where n is FFFFFFFFh.
+    pub(crate) fn places(self) -> Places
+        requires { (self.k < 2 ^ 16) × (self.n < 2 ^ 32) }
+        ensures iv { result.iv ≡ iv_at_lem self.k }
+        ensures text { result.text ≡ text_at_lem (mode_of self.mode) self.k }
+        ensures tag { result.tag ≡ tag_at (mode_of self.mode) self.k self.n }
+        ensures end { result.end ≡ end_at (mode_of self.mode) self.k self.n }
+    {
+        let iv = NAME_AT + self.k;
+        let text = iv + iv_size(self.mode);
+        let tag = text + self.n;
+        let end = tag + tag_size(self.mode);
+        Places { iv, text, tag, end }
+    }
+
+    // The header that has these fields.
+    pub(crate) fn bytes(self) -> [u8; NAME_AT]
+        requires { (self.k ≤ name_max) × (self.n ≤ text_max) }
+        ensures { result ≡ header self.mode self.k self.n }
+    {
+        let places = self.places();
+        let mut header = [0; NAME_AT];
+        header[FORMAT_AT..MODE_AT].copy_from_slice(&bytes16(RECORD_FORMAT));
+        header[MODE_AT] = self.mode;
+        header[COUNT_AT..NAME_OFFSET_AT].copy_from_slice(&bytes32(self.n));
+        header[NAME_OFFSET_AT..NAME_LENGTH_AT].copy_from_slice(&bytes16(NAME_AT));
+        header[NAME_LENGTH_AT..IV_OFFSET_AT].copy_from_slice(&bytes16(self.k));
+        header[IV_OFFSET_AT..IV_LENGTH_AT].copy_from_slice(&bytes16(places.iv));
+        header[IV_LENGTH_AT..TEXT_OFFSET_AT].copy_from_slice(&bytes16(iv_size(self.mode)));
+        header[TEXT_OFFSET_AT..TAG_OFFSET_AT].copy_from_slice(&bytes32(places.text));
+        header[TAG_OFFSET_AT..NAME_AT].copy_from_slice(&bytes32(places.tag));
+        header
+    }
 }
 
 // The end that a record's own header gives, whether or not the record reaches so far.
 pub fn end_in(r: &[u8]) -> usize
     ensures { result ≡ end_in r.now }
 {
-    let mode = mode_in(r);
-    let k = read16(r, NAME_LENGTH_AT);
-    let text_at = NAME_AT + k + iv_size(mode);
-    let tag_at = tag_place(text_at, read32(r, COUNT_AT));
-    tag_at + tag_size(mode)
+    Header::of(r).places().end
 }
 
 // Whether the header's words and the record's end keep to the layout.
 fn layout_ok(r: &[u8]) -> bool
     ensures { result ≡ layout_ok r.now }
 {
-    let mode = mode_in(r);
-    let iv_long = iv_size(mode);
-    let n = read32(r, COUNT_AT);
-    let k = read16(r, NAME_LENGTH_AT);
-    let iv_at = NAME_AT + k;
-    let text_at = iv_at + iv_long;
-    let tag_at = tag_place(text_at, n);
-    let end_at = end_in(r);
+    let h = Header::of(r);
+    let p = h.places();
     (read16(r, FORMAT_AT) == RECORD_FORMAT)
         & (read8(r, ZERO_AT) == 0)
         & (read16(r, NAME_OFFSET_AT) == NAME_AT)
-        & (1 <= k)
-        & (read16(r, IV_OFFSET_AT) == iv_at)
-        & (read16(r, IV_LENGTH_AT) == iv_long)
-        & (read32(r, TEXT_OFFSET_AT) == text_at)
-        & (read32(r, TAG_OFFSET_AT) == tag_at)
-        & (r.len() == end_at)
+        & (1 <= h.k)
+        & (read16(r, IV_OFFSET_AT) == p.iv)
+        & (read16(r, IV_LENGTH_AT) == iv_size(h.mode))
+        & (read32(r, TEXT_OFFSET_AT) == p.text)
+        & (read32(r, TAG_OFFSET_AT) == p.tag)
+        & (r.len() == p.end)
 }
 
 // Whether a name's length or a plaintext's count passes its maximum.
@@ -82,100 +112,27 @@ pub(crate) fn passes_maximum(k: usize, n: usize) -> bool
     (NAME_MAX < k) | (TEXT_MAX < n)
 }
 
-// Reads a record's header.
-pub fn read(r: &[u8]) -> Header
+// Reads a record's header: its fields, or 2, 3 or 4.
+pub fn read(r: &[u8]) -> Result<Header, Refusal>
     ensures { header_says result ≡ header_answer r.now }
 {
     if !layout_ok(r) {
-        return Header::BadForm;
+        return Err(Refusal::Layout);
     }
-    let mode = mode_in(r);
-    if !names_mode(mode) {
-        return Header::BadMode;
+    let h = Header::of(r);
+    if !names_mode(h.mode) {
+        return Err(Refusal::NotPermitted);
     }
-    let k = read16(r, NAME_LENGTH_AT);
-    let n = read32(r, COUNT_AT);
-    if passes_maximum(k, n) {
-        return Header::TooLong;
+    if passes_maximum(h.k, h.n) {
+        return Err(Refusal::PastMaximum);
     }
-    Header::Fields { mode, k, n }
+    Ok(h)
 }
 
-// The number of a header that was read: 0, 2, 3 or 4.
-pub(crate) fn number_of(h: Header) -> u8
-    ensures { result ≡ (header_says h).0 }
+// The record by itself: accepted, or 2, 3 or 4.
+pub fn check(r: &[u8]) -> Result<(), Refusal>
+    ensures { outcome_number result ≡ header_number r.now }
 {
-    match h {
-        Header::Fields {
-            mode: _,
-            k: _,
-            n: _,
-        } => 0,
-        Header::BadForm => 2,
-        Header::BadMode => 3,
-        Header::TooLong => 4,
-    }
-}
-
-// The record by itself: 0, or 2, 3 or 4.
-pub fn check(r: &[u8]) -> u8
-    ensures { result ≡ header_number r.now }
-{
-    number_of(read(r))
-}
-
-// A header.
-fn header_of(u: u8, k: usize, n: usize) -> [u8; NAME_AT]
-    requires { (k ≤ name_max) × (n ≤ text_max) }
-    ensures { result ≡ header u k n }
-{
-    let iv_long = iv_size(u);
-    let iv_at = NAME_AT + k;
-    let text_at = iv_at + iv_long;
-    let tag_at = text_at + n;
-    let format = bytes16(RECORD_FORMAT);
-    let count = bytes32(n);
-    let name_place = bytes16(NAME_AT);
-    let name_long = bytes16(k);
-    let iv_place = bytes16(iv_at);
-    let iv_bytes = bytes16(iv_long);
-    let text_place = bytes32(text_at);
-    let tag_place = bytes32(tag_at);
-    [
-        format[0],
-        format[1],
-        u,
-        0,
-        count[0],
-        count[1],
-        count[2],
-        count[3],
-        name_place[0],
-        name_place[1],
-        name_long[0],
-        name_long[1],
-        iv_place[0],
-        iv_place[1],
-        iv_bytes[0],
-        iv_bytes[1],
-        text_place[0],
-        text_place[1],
-        text_place[2],
-        text_place[3],
-        tag_place[0],
-        tag_place[1],
-        tag_place[2],
-        tag_place[3],
-    ]
-}
-
-// What a record has before its IV, and zeros after it.
-pub(crate) fn front_of(u: u8, name: &[u8], n: usize) -> [u8; FRONT_MAX]
-    requires { (length name.now ≤ name_max) × (n ≤ text_max) }
-    ensures { result ≡ over (record_front u name.now n) (replicate front_max 0) }
-{
-    let mut room = [0u8; FRONT_MAX];
-    let h = header_of(u, name.len(), n);
-    put_both(&h, name, &mut room);
-    room
+    read(r)?;
+    Ok(())
 }

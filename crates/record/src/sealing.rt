@@ -2,114 +2,101 @@
 ghost use Rattle.std.specs.Prelude.{◌≡◌, length};
 ghost use Rattle.std.proofs.Math.Option.{some};
 ghost use Rattle.octets.specs.Lent.{over};
+ghost use Rattle.refusals.specs.Numbers.{outcome_number};
 ghost use Rattle.keytable.specs.Table.{row_at};
-ghost use Rattle.keytable.specs.Calls.{use_in};
 ghost use Rattle.keytable.specs.Find.{row_found};
-ghost use Rattle.record.specs.Seal.{record_of, record_for, Fillable, ready_number, ready_row, ready_answer, seal_answer};
+ghost use Rattle.record.specs.Seal.{record_of, record_for, Fillable, ready_answer, seal_answer};
 
-use crate::header::{front_of, passes_maximum};
-use crate::sizes::{CALLERS_MAX, NAME_AT};
-use keytable::{DATA_TYPE, Found, Table, key_at, use_at};
-use modes::{encrypt, iv_size, tag_size};
-use octets::strings::{part, put_both};
+use crate::header::{Header, passes_maximum};
+use crate::sizes::CALLERS_MAX;
+use keytable::{DATA_TYPE, key_at, use_at};
+use modes::{encrypt, iv_size};
+use octets::strings::put_both;
+use refusals::Refusal;
 
-// What the tests of sealing find: the place of the name's row, or the lowest number that applies.
-#[derive(Drop)]
-pub(crate) enum SealReady {
-    At(usize),
-    Refused(u8),
+// What is sealed: the name of the row, the IV, the caller's associated data and the plaintext.
+#[derive(Clone, Copy)]
+pub(crate) struct Contents<'a> {
+    pub(crate) name: &'a [u8],
+    pub(crate) iv: &'a [u8],
+    pub(crate) aad: &'a [u8],
+    pub(crate) plain: &'a [u8],
 }
 
-// Writes the record of a use and a key.
-fn fill(u: u8, key: &[u8], name: &[u8], iv: &[u8], aad: &[u8], plain: &[u8], out: &mut [u8])
-    requires { Fillable u key.now name.now iv.now aad.now plain.now out.old }
-    ensures { out.new ≡ over (record_of u key.now name.now iv.now aad.now plain.now) out.old }
-{
-    let room = front_of(u, name, plain.len());
-    let iv_at = NAME_AT + name.len();
-    let text_at = iv_at + iv.len();
-    let front = part(&room, 0, iv_at);
-    put_both(front, iv, out);
-    encrypt(u, key, iv, front, aad, plain, &mut out[text_at..]);
+impl Contents<'_> {
+    // Every test of sealing into so much room: the place of the name's row, or the lowest number that applies.
+    pub(crate) fn ready(self, table: &[u8], room: usize) -> Result<usize, Refusal>
+        ensures { ready_answer table.now self.entry.name.now self.entry.iv.now self.entry.aad.now (length self.entry.plain.now) room ≡ (outcome_number result, row_found table.now result) }
+    {
+        keytable::check(table)?;
+        let found = keytable::find(table, DATA_TYPE, self.name);
+        let u = found.map_or(0, |at| use_at(table, at));
+        if self.name.is_empty() | (self.iv.len() != iv_size(u)) {
+            return Err(Refusal::Layout);
+        }
+        let header = Header {
+            mode: u,
+            k: self.name.len(),
+            n: self.plain.len(),
+        };
+        if passes_maximum(header.k, header.n) | (CALLERS_MAX < self.aad.len()) {
+            return Err(Refusal::PastMaximum);
+        }
+        if room < header.places().end {
+            return Err(Refusal::NoRoom);
+        }
+        // Document 01 has a lookup's answer taken apart like this, so there is no `?` here.
+        let Ok(at) = found else {
+            return Err(Refusal::NoRow);
+        };
+        Ok(at)
+    }
+
+    // Writes the record of a use and a key.
+    fn fill(self, u: u8, key: &[u8], out: &mut [u8])
+        requires { Fillable u key.now self.name.now self.iv.now self.aad.now self.plain.now out.old }
+        ensures { out.new ≡ over (record_of u key.now self.entry.name.now self.entry.iv.now self.entry.aad.now self.entry.plain.now) out.old }
+    {
+        let header = Header {
+            mode: u,
+            k: self.name.len(),
+            n: self.plain.len(),
+        };
+        let (front, rest) = out.split_at_mut(header.places().iv);
+        put_both(&header.bytes(), self.name, front);
+        let (iv, rest) = rest.split_at_mut(self.iv.len());
+        iv.copy_from_slice(self.iv);
+        encrypt(u, key, self.iv, front, self.aad, self.plain, rest).unwrap();
+    }
+
+    // Writes the record by the row at the place that the tests found.
+    pub(crate) fn write(self, table: &[u8], at: usize, out: &mut [u8])
+        requires { ready_answer table.now self.name.now self.iv.now self.aad.now (length self.plain.now) (length out.old) ≡ (0, some (row_at table.now at)) }
+        ensures { out.new ≡ over (record_for table.now self.entry.name.now self.entry.iv.now self.entry.aad.now self.entry.plain.now) out.old }
+    {
+        let u = use_at(table, at);
+        self.fill(u, key_at(table, at), out);
+    }
 }
 
-// The use of the row that a lookup found, 0 where there is none.
-fn use_found(table: &[u8], f: &Found) -> u8
-    ensures { result ≡ use_in (row_found table.now f.now) }
-{
-    let Found::At(at) = *f else {
-        return 0;
-    };
-    use_at(table, at)
-}
-
-// Every test of sealing n bytes into so much room.
-pub(crate) fn ready_to_seal(
+// Seals: after Ok the first 52 + k + n bytes of the output are the record.
+pub fn seal(
     table: &[u8],
-    name: &[u8],
-    iv: &[u8],
-    aad: &[u8],
-    n: usize,
-    room: usize,
-) -> SealReady
-    ensures { ready_answer table.now name.now iv.now aad.now n room ≡ (ready_number result, ready_row table.now result) }
-{
-    let Table::Rows(_) = keytable::check(table) else {
-        return SealReady::Refused(1);
-    };
-    let found = keytable::find(table, DATA_TYPE, name);
-    let u = use_found(table, &found);
-    let iv_long = iv_size(u);
-    if (name.len() == 0) | (iv.len() != iv_long) {
-        return SealReady::Refused(2);
-    }
-    if passes_maximum(name.len(), n) | (CALLERS_MAX < aad.len()) {
-        return SealReady::Refused(4);
-    }
-    if room < NAME_AT + name.len() + iv_long + n + tag_size(u) {
-        return SealReady::Refused(5);
-    }
-    let Found::At(at) = found else {
-        return SealReady::Refused(6);
-    };
-    SealReady::At(at)
-}
-
-// The number of what the tests found.
-pub(crate) fn number_of(r: SealReady) -> u8
-    ensures { result ≡ ready_number r }
-{
-    match r {
-        SealReady::At(_) => 0,
-        SealReady::Refused(n) => n,
-    }
-}
-
-// Writes the record by the row at the place that the tests found.
-pub(crate) fn write(
-    table: &[u8],
-    at: usize,
     name: &[u8],
     iv: &[u8],
     aad: &[u8],
     plain: &[u8],
     out: &mut [u8],
-)
-    requires { ready_answer table.now name.now iv.now aad.now (length plain.now) (length out.old) ≡ (0, some (row_at table.now at)) }
-    ensures { out.new ≡ over (record_for table.now name.now iv.now aad.now plain.now) out.old }
+) -> Result<(), Refusal>
+    ensures { seal_answer table.now name.now iv.now aad.now plain.now out.old ≡ (outcome_number result, out.new) }
 {
-    let u = use_at(table, at);
-    fill(u, key_at(table, at), name, iv, aad, plain, out);
-}
-
-// Seals: document 01's number, and after 0 the first 52 + k + n bytes of the output are the record.
-pub fn seal(table: &[u8], name: &[u8], iv: &[u8], aad: &[u8], plain: &[u8], out: &mut [u8]) -> u8
-    ensures { seal_answer table.now name.now iv.now aad.now plain.now out.old ≡ (result, out.new) }
-{
-    let r = ready_to_seal(table, name, iv, aad, plain.len(), out.len());
-    let SealReady::At(at) = r else {
-        return number_of(r);
+    let contents = Contents {
+        name,
+        iv,
+        aad,
+        plain,
     };
-    write(table, at, name, iv, aad, plain, out);
-    0
+    let at = contents.ready(table, out.len())?;
+    contents.write(table, at, out);
+    Ok(())
 }

@@ -21,10 +21,8 @@ pub(crate) const TEXT_OFFSET_AT: usize = 16;
 
 pub(crate) const TAG_OFFSET_AT: usize = 20;
 
-// The header's size, which is where the name stands; and the most that comes before the IV.
+// The header's size, which is where the name stands.
 pub(crate) const NAME_AT: usize = 24;
-
-pub(crate) const FRONT_MAX: usize = 56;
 
 // The maxima.
 pub(crate) const NAME_MAX: usize = 32;

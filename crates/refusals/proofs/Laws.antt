@@ -3,7 +3,7 @@
 use mathlib.Core.Path.{◌≡◌, refl, sym, ap, ◌∙◌}
 use Prim.Native.Nat.{ℕ}
 use Rattle.std.specs.Prelude.{List, [], ◌∷◌, get_or, Result, Ok, Err}
-use Rattle.std.specs.Result.{IsErrAnd}
+use Rattle.std.specs.Result.{IsErrAnd, IsOk}
 use Rattle.refusals.specs.Numbers.{number_of, outcome_number, outcome_says}
 use Rattle.refusals.specs.Laws.{NumberUnique, OutcomeUnique}
 use Rattle.refusals.specs.declared.Refusal.{Refusal}
@@ -64,3 +64,8 @@ passed_on (Err x) e h = ap number_of h
 pub said_on : {A : Type 0} (values : A → List ℕ) (r : Result A Refusal) (e : Refusal) → IsErrAnd r (λ x. x ≡ e) → outcome_says values r ≡ (number_of e, [])
 said_on values (Ok a) e h = absurd h
 said_on values (Err x) e h = ap (λ (f : Refusal). (number_of f, [])) h
+
+-- where the number is 0 nothing was refused
+pub is_done : {A : Type 0} (r : Result A Refusal) → outcome_number r ≡ 0 → IsOk r
+is_done (Ok a) h = refl
+is_done (Err e) h = absurd (not_zero e (sym h))

@@ -17,10 +17,10 @@ layout : (c : After-layout_ok) (b : Bool) → c.layout_ok.result ≡ b → layou
 layout c b e = sym c.layout_ok.ensures ∙ e
 
 mode : (c : After-names_mode) (b : Bool) → c.names_mode.result ≡ b → names_mode (mode_in c.args.r.now) ≡ b
-mode c b e = ap names_mode (sym c.mode_in-mode.ensures) ∙ sym c.names_mode.ensures ∙ e
+mode c b e = ap names_mode (sym c.of-h.ensures.mode) ∙ sym c.names_mode.ensures ∙ e
 
 maxima : (c : After-passes_maximum) (b : Bool) → c.passes_maximum.result ≡ b → passes (name_size_lem c.args.r.now) (count_in c.args.r.now) ≡ b
-maxima c b e = ap₂ passes (sym c.read16-k.ensures.0) (sym c.read32-n.ensures.0) ∙ sym c.passes_maximum.ensures ∙ e
+maxima c b e = ap₂ passes (sym c.of-h.ensures.name.0) (sym c.of-h.ensures.count.0) ∙ sym c.passes_maximum.ensures ∙ e
 
 pub returns-then-not-layout_ok : goal.returns-then-not-layout_ok
 returns-then-not-layout_ok c = sym (header_two _ (layout (goal.at.returns-then-not-layout_ok c).After-layout_ok false c.if-not-layout_ok.true))
@@ -40,7 +40,7 @@ returns-then-passes_maximum c =
 pub returns : goal.returns
 returns c =
     let at = goal.at.returns c in
-    fields c.mode_in-mode.ensures c.read16-k.ensures.0 c.read32-n.ensures.0
+    fields c.of-h.ensures.mode c.of-h.ensures.name.0 c.of-h.ensures.count.0
     ∙ sym
     (header-zero _ (layout at.After-layout_ok true c.if-not-layout_ok.false) (mode at.After-names_mode true c.if-not-names_mode.false)
     (maxima at.After-passes_maximum false c.if-passes_maximum.false))
