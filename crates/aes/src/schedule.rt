@@ -24,6 +24,7 @@ fn rot_word(a: Column) -> Column
 }
 
 // The temp of the first word of round key n + 2, where a is the word before it.
+#[tactic(auto, using(crate::proofs::Extended::temp_even, crate::proofs::Extended::temp_odd))]
 fn first_temp(n: usize, a: Column) -> Column
     requires { n < 13 }
     ensures { result ≡ temp (8 + 4 * n) a }

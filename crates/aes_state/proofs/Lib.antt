@@ -1,3 +1,2 @@
 pub mod Grid
-mod Products
 pub mod Laws

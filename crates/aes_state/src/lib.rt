@@ -77,6 +77,7 @@ pub fn inv_shift_rows(s: State) -> State
 
 // 5.1.3
 
+#[tactic(auto, unfolding(aes_field::specs::Field::times))]
 fn mix_column(a: Column) -> Column
     ensures { result ≡ mix_column a }
 {
@@ -115,6 +116,7 @@ struct Multiples {
     nine: u8,
 }
 
+#[tactic(auto, unfolding(aes_field::specs::Field::times))]
 fn multiples_of(a: u8) -> Multiples
     ensures { (result.e ≡ times a 14) × (result.b ≡ times a 11) × (result.d ≡ times a 13) × (result.nine ≡ times a 9) }
 {
