@@ -8,31 +8,27 @@ use Prim.Native.Nat.{ℕ, ◌+◌, ◌≤◌, ◌<◌}
 use native.Mathlib.Nat.{add-zero}
 use native.Mathlib.Omega.{arith}
 use lib.Dec.{eqb}
-use lib.ListN.{length, get_or, set, drop, replicate, length-set, length-drop, length-replicate, get_or-replicate}
+use lib.ListN.{length, get_or, set, replicate, length-set, length-replicate, get_or-replicate}
 use lib.Seq.{get_or-set_same, get_or-set_other}
 use borrow.Author.Tests.{eqb-true, eqb-false, leb-true}
+use Rattle.std.specs.Prelude.{Ok}
 use Rattle.octets.specs.Lent.{when}
-use Rattle.octets.specs.Split.{Split, behind, split_by}
-use Rattle.octets.specs.Tests.{part_of}
-use Rattle.octets.proofs.Split.{place_turn, place-stop}
-use Rattle.octets.proofs.Tests.{every_at, length_part}
+use Rattle.octets.proofs.Tests.{every_at}
 use Rattle.keytable.specs.Row.{data_type}
 use Rattle.keytable.specs.Table.{row_max, number_of_place, rows_of, row_number, row_count, head_ok, head_tests, table_ok, row_at}
 use Rattle.keytable.specs.Laws.{Numbered}
 use Rattle.keytable.specs.Calls.{table_says, table_answer}
-use Rattle.keytable.specs.declared.Table.{Table}
-use Rattle.keytable.specs.declared.Table.TheVariants.{Rows}
 use Rattle.keytable.proofs.Accepted.{accepted_head}
 use Rattle.keytable.proofs.Calls.{rows_accepted}
 use Rattle.keytable.proofs.Laws.{found_numbered, row_at-number}
 use Rattle.record.specs.Record.{name_in}
 use Rattle.record.specs.Open.{opened_at}
 use Rattle.record.proofs.VerifyLaws.{opened_verifies, opened_found, opened-by-row, opened-placed}
-use Rattle.report_text.specs.Dump.{dump_max, record_size_lem, records_in}
+use Rattle.report_text.specs.Dump.{dump_max, records_in}
 use Rattle.report_text.specs.Opens.{opens_with, opens_by}
 use Rattle.report_text.specs.Report.{record_bytes}
 use Rattle.report_text.specs.Counted.{Countable, CountsOne, CountsAll}
-use Rattle.report_text.proofs.Dump.{size_within, records_few}
+use Rattle.report_text.proofs.Dump.{lengths_add_up, records_few}
 use Rattle.report_text.proofs.Opening.{opens-by_exactly, opens-by-one, opens_few}
 
 -- ---- rows by their number
@@ -43,11 +39,11 @@ unfolding head_ok
 rows_few t ok = leb-true (row_count t) row_max (every_at (head_tests t) 1 (accepted_head t ok))
 
 -- the count of rows that the check answers is the table's own
-pub rows-counted : (t : List ℕ) (a : Table) (r : ℕ) → table_says a ≡ table_answer t → a ≡ Rows r → r ≡ row_count t
+pub rows-counted : (t : List ℕ) (r : ℕ) → table_says (Ok r) ≡ table_answer t → r ≡ row_count t
 unfolding table_answer
-rows-counted t a r e is =
-    let listed : (table_answer t).1 ≡ row_count t ∷ [] = rw (rows_accepted t a r e is) in
-    ap (λ (l : List ℕ). get_or l 0 0) (ap (λ (x : Table). (table_says x).1) (sym is) ∙ ap (λ (x : ℕ × List ℕ). x.1) e ∙ listed)
+rows-counted t r e =
+    let listed : (table_answer t).1 ≡ row_count t ∷ [] = rw (rows_accepted t r e) in
+    ap (λ (l : List ℕ). get_or l 0 0) (ap (λ (x : ℕ × List ℕ). x.1) e ∙ listed)
 
 -- ---- one record
 
@@ -101,71 +97,53 @@ module _ (t r : List ℕ) (ok : table_ok t ≡ true) where
                 get_or-set_other opens k i (get_or opens k 0 + 1) 0 away
                 ∙ sym (ap (λ (b : Bool). get_or opens i 0 + when b 1 0) (not-opens (opens_with (row_number (rows_of t) i) r) refl away) ∙ add-zero (get_or opens i 0))
 
--- ---- what is left to count at a place
+-- ---- what is left to count, where these records are left
 
-pub record LeftAt (t d opens : List ℕ) (records at size : ℕ) : Type 0 where
-  pub within : at ≤ length d
-  pub size_is : size ≡ record_size_lem (drop at d)
+pub record LeftIn (t d opens : List ℕ) (records bytes : ℕ) (left : List (List ℕ)) : Type 0 where
   pub long : length opens ≡ row_max
-  pub records-left : length (records_in d) ≡ records + length (records_in (drop at d))
-  pub bytes_left : record_bytes (records_in d) ≡ at + record_bytes (records_in (drop at d))
-  pub opens-left : (i : ℕ) → i < row_count t → opens_by (row_number (rows_of t) i) (records_in d) ≡ get_or opens i 0 + opens_by (row_number (rows_of t) i) (records_in (drop at d))
+  pub records-left : length (records_in d) ≡ records + length left
+  pub bytes_left : record_bytes (records_in d) ≡ bytes + record_bytes left
+  pub opens-left : (i : ℕ) → i < row_count t → opens_by (row_number (rows_of t) i) (records_in d) ≡ get_or opens i 0 + opens_by (row_number (rows_of t) i) left
 
-pub left_first : (t d : List ℕ) {size : ℕ} → table_ok t ≡ true → size ≡ record_size_lem d → LeftAt t d (replicate row_max 0) 0 0 size
-left_first t d ok size_is = record {
-  within = omega arith;
-  size_is = size_is;
+pub left_first : (t d : List ℕ) → table_ok t ≡ true → LeftIn t d (replicate row_max 0) 0 0 (records_in d)
+left_first t d ok = record {
   long = length-replicate {A = ℕ} row_max 0;
   records-left = omega arith;
   bytes_left = omega arith;
   opens-left = λ i below. omega (arith, get_or-replicate {A = ℕ} row_max i 0 0 (omega (arith, below, rows_few t ok)));
 }
 
-module _ {t d opens : List ℕ} {records at size : ℕ} (left : LeftAt t d opens records at size) where
+module _ {t d opens : List ℕ} {records bytes : ℕ} {left : List (List ℕ)} (so_far : LeftIn t d opens records bytes left) where
   -- no count passes the number of bytes
   pub left_countable : length d ≤ dump_max → Countable t opens
   left_countable short = record {
-    enough = omega (arith, left.long);
-    small = λ i below. omega (arith, left.opens-left i below, opens_few (row_number (rows_of t) i) (records_in d), records_few d, short);
+    enough = omega (arith, so_far.long);
+    small = λ i below. omega (arith, so_far.opens-left i below, opens_few (row_number (rows_of t) i) (records_in d), records_few d, short);
   }
 
   pub left_few : length d ≤ dump_max → records ≤ dump_max
-  left_few short = omega (arith, left.records-left, records_few d, short)
+  left_few short = omega (arith, so_far.records-left, records_few d, short)
 
-  -- a record is read, which moves the place on by its length
-  module _ (some : 0 < size) where
-    turn : split_by record_size_lem (drop at d) ≡ behind (part_of d at size) (split_by record_size_lem (drop (at + size) d))
-    turn = place_turn record_size_lem size_within d at size left.size_is (λ z. omega (arith, some, z))
+  -- one more is counted
+  module _ {r : List ℕ} {rest : List (List ℕ)} (is : left ≡ r ∷ rest) where
+    pub left_bytes : bytes + length r ≤ length d
+    unfolding record_bytes
+    left_bytes = omega (arith, so_far.bytes_left, ap record_bytes is, lengths_add_up d)
 
-    pub left_inside : at + size ≤ length d
-    left_inside = omega (arith, left.size_is, left.within, size_within (drop at d), length-drop at d)
-
-    turned : {after : List ℕ} {next : ℕ} → next ≡ record_size_lem (drop (at + size) d) → CountsOne t (part_of d at size) opens after → LeftAt t d after (records + 1) (at + size) next
+    pub left_turn : {after : List ℕ} → CountsOne t r opens after → LeftIn t d after (records + 1) (bytes + length r) rest
     unfolding record_bytes opens_by
-    turned next_is one = record {
-      within = left_inside;
-      size_is = next_is;
-      long = one.same_size ∙ left.long;
-      records-left = omega (arith, left.records-left, ap (λ (p : Split). length p.0) turn);
-      bytes_left = omega (arith, left.bytes_left, ap (λ (p : Split). record_bytes p.0) turn, length_part d at size left_inside);
-      opens-left =
-          λ i below.
-          omega (arith, left.opens-left i below, ap (λ (p : Split). opens_by (row_number (rows_of t) i) p.0) turn, one.each i below);
+    left_turn one = record {
+      long = one.same_size ∙ so_far.long;
+      records-left = omega (arith, so_far.records-left, ap length is);
+      bytes_left = omega (arith, so_far.bytes_left, ap record_bytes is);
+      opens-left = λ i below. omega (arith, so_far.opens-left i below, ap (opens_by (row_number (rows_of t) i)) is, one.each i below);
     }
-
-    pub left_turn : {after : List ℕ} {end next : ℕ} → end ≡ at + size → CountsOne t (part_of d at size) opens after → next ≡ record_size_lem (drop end d)
-        → LeftAt t d after (records + 1) end next
-    left_turn moved one next_is = rw moved (turned (rw moved at next_is) one)
 
   -- none is left
-  module _ (none : size ≡ 0) where
-    left-none : split_by record_size_lem (drop at d) ≡ ([], drop at d)
-    left-none = place-stop record_size_lem size_within d at (sym left.size_is ∙ none)
-
-    pub left_last : CountsAll t d records at opens
-    unfolding record_bytes opens_by
-    left_last = record {
-      records_are = omega (arith, left.records-left, ap (λ (p : Split). length p.0) left-none);
-      bytes_are = omega (arith, left.bytes_left, ap (λ (p : Split). record_bytes p.0) left-none);
-      opens_are = λ i below. omega (arith, left.opens-left i below, ap (λ (p : Split). opens_by (row_number (rows_of t) i) p.0) left-none);
-    }
+  pub left_last : left ≡ [] → CountsAll t d records bytes opens
+  unfolding record_bytes opens_by
+  left_last none = record {
+    records_are = omega (arith, so_far.records-left, ap length none);
+    bytes_are = omega (arith, so_far.bytes_left, ap record_bytes none);
+    opens_are = λ i below. omega (arith, so_far.opens-left i below, ap (opens_by (row_number (rows_of t) i)) none);
+  }

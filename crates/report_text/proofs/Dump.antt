@@ -1,16 +1,17 @@
 -- The records of a dump and its tail: what can be read at a place, turn by turn, and the sum of the lengths.
 -- Assumes nothing.
+use Rattle.std.specs.List.{slice_range}
 use mathlib.Core.Path.{◌≡◌, refl, sym, ap, ap₂, ◌∙◌}
 use mathlib.Core.Bool.{Bool, true, false}
 use mathlib.Core.List.{List, [], ◌∷◌, ◌++◌, flatten}
-use Prim.Native.Nat.{ℕ, ◌+◌, ◌*◌, ◌≤◌, ◌<◌}
+use Prim.Native.Nat.{ℕ, ◌+◌, ◌-◌, ◌*◌, ◌≤◌, ◌<◌}
 use native.Mathlib.Omega.{arith}
 use borrow.Author.Tests.{leb-true, eqb-true, lt-leb, le-leb, eq-eqb, ne_eqb, not-false}
 use lib.Dec.{eqb, leb}
-use lib.ListN.{length, get_or, take, length-append, get_or-append}
-use lib.Seq.{take-append_seam}
+use lib.ListN.{length, get_or, take, drop, length-append, get_or-append}
+use lib.Seq.{take-append_seam, length-take-le}
 use Rattle.octets.specs.Split.{Split, split_by}
-use Rattle.octets.specs.Tests.{all, part_of}
+use Rattle.octets.specs.Tests.{all}
 use Rattle.octets.proofs.Lent.{none_applies}
 use Rattle.octets.proofs.Tests.{and_left, and_right, all_at}
 use Rattle.octets.proofs.Split as o
@@ -79,26 +80,23 @@ module _ (d : List ℕ) where
   pub size-some : (record_size_lem d ≡ 0 → ⊥) → (readable d ≡ true) × (record_size_lem d ≡ end_in d)
   size-some f = by_reading (λ reads. (reads, size_read reads)) (λ stops. absurd (f (size-stop stops)))
 
--- the same by what the code finds: the rest of a dump from a place, its header's end, and the number of the bytes up to there
-module _ (d : List ℕ) {rest : List ℕ} {end : ℕ} (is : rest ≡ d) (ends : end ≡ end_in rest) where
-  end_here : end ≡ end_in d
-  end_here = ends ∙ ap end_in is
+-- the same by what the code finds: its header's end, and the number of the bytes up to there
+module _ (d : List ℕ) {end : ℕ} (ends : end ≡ end_in d) where
+  pub past_here : length d < end → readable d ≡ false
+  past_here h = unreadable_past d (omega (arith, h, ends))
 
-  pub size_past : length rest < end → 0 ≡ record_size_lem d
-  size_past h = sym (size-stop d (unreadable_past d (omega (arith, h, end_here, ap length is))))
-
-  module _ (reaches : end ≤ length rest) {first : List ℕ} {n : ℕ} (cut : first ≡ part_of rest 0 end) (number : n ≡ header_number first) where
-    inside : end_in d ≤ length d
-    inside = omega (arith, reaches, end_here, ap length is)
+  module _ (reaches : end ≤ length d) {r : List ℕ} {n : ℕ} (cut : r ≡ slice_range d 0 end) (number : n ≡ header_number r) where
+    cut_here : r ≡ take (end_in d) d
+    cut_here = let up : end - 0 ≡ end_in d = omega (arith, ends) in cut ∙ ap (λ (k : ℕ). take k d) up
 
     number_here : n ≡ header_number (take (end_in d) d)
-    number_here = number ∙ ap header_number (cut ∙ ap₂ take end_here is)
+    number_here = number ∙ ap header_number cut_here
 
-    pub size-refused : (n ≡ 0 → ⊥) → 0 ≡ record_size_lem d
-    size-refused Some-number = sym (size-stop d (unreadable-refused d inside (λ z. Some-number (number_here ∙ z))))
+    pub refused_here : (n ≡ 0 → ⊥) → readable d ≡ false
+    refused_here Some-number = unreadable-refused d (omega (arith, reaches, ends)) (λ z. Some-number (number_here ∙ z))
 
-    pub size_accepted : n ≡ 0 → end ≡ record_size_lem d
-    size_accepted none = end_here ∙ sym (size_read d (readable_accepted d inside (sym number_here ∙ none)))
+    pub accepted_here : n ≡ 0 → (readable d ≡ true) × (r ≡ take (end_in d) d)
+    accepted_here none = (readable_accepted d (omega (arith, reaches, ends)) (sym number_here ∙ none), cut_here)
 
 pub size_within : (d : List ℕ) → record_size_lem d ≤ length d
 size_within d = by_reading d (λ reads. omega (arith, size_read d reads, (readable-whole d reads).0)) (λ stops. omega (arith, size-stop d stops))
@@ -107,6 +105,22 @@ first_accepted : (d : List ℕ) → (record_size_lem d ≡ 0 → ⊥) → eqb (h
 first_accepted d f =
     let (reads, size) = size-some d f in
     eq-eqb (header_number (take (record_size_lem d) d)) 0 (ap (λ (n : ℕ). header_number (take n d)) size ∙ (readable-whole d reads).1)
+
+-- ---- record by record
+
+pub records_end : (d : List ℕ) → readable d ≡ false → records_in d ≡ []
+records_end d stops = ap (λ (p : Split). p.0) (o.split-stop record_size_lem size_within d (size-stop d stops))
+
+pub records_turn : (d : List ℕ) {r : List ℕ} → (readable d ≡ true) × (r ≡ take (end_in d) d) → records_in d ≡ r ∷ records_in (drop (length r) d)
+records_turn d {r} (reads, is) =
+    ap (λ (p : Split). p.0) (o.split_turn record_size_lem size_within d some)
+    ∙ ap₂ (λ (x : List ℕ) (k : ℕ). x ∷ records_in (drop k d)) (ap (λ (k : ℕ). take k d) (size_read d reads) ∙ sym is) (size_read d reads ∙ sym long)
+  where
+    long : length r ≡ end_in d
+    long = ap length is ∙ length-take-le (end_in d) d (readable-whole d reads).0
+
+    some : record_size_lem d ≡ 0 → ⊥
+    some z = omega (arith, z, size_read d reads, end_is d)
 
 -- ---- the laws of parts that tell their own size, of records
 

@@ -1,31 +1,32 @@
 -- The laws of specs/Laws.antt on the text.
 -- Assumes nothing.
-use mathlib.Core.Path.{◌≡◌, refl, sym, ap, ◌∙◌}
-use mathlib.Core.Bool.{Bool, true, false, not}
-use mathlib.Core.List.{List, [], ◌∷◌, ◌++◌, append_assoc}
-use Prim.Native.Nat.{ℕ, ◌+◌, ◌-◌, ◌*◌, ◌≤◌}
-use native.Mathlib.Omega.{arith}
-use lib.Dec.{eqb, ltb, lit<}
+use mathlib.Core.Path.{◌≡◌, refl, sym, ap, ap₂, ◌∙◌}
+use mathlib.Core.Bool.{true}
+use mathlib.Core.List.{List, [], ◌++◌, append_assoc}
+use Prim.Native.Nat.{ℕ, ◌+◌, ◌-◌, ◌*◌}
 use lib.ListN.{length, replicate, length-append, length-replicate}
-use borrow.Author.Tests.{lt-ltb, le-ltb, ltb-false}
-use Rattle.octets.specs.Lent.{when, lowest}
+use borrow.Author.Tests.{lt-ltb, le-ltb}
 use Rattle.octets.specs.Split.{split_by}
 use Rattle.octets.specs.Tests.{all, part_of}
 use Rattle.octets.proofs.Lent.{length_over}
 use Rattle.octets.proofs.Tests.{part_at}
-use Rattle.octets.proofs.Unique.{unique-by}
+use Rattle.std.specs.Prelude.{Result}
+use Rattle.refusals.specs.declared.Refusal.{Refusal}
+use Rattle.refusals.proofs.Laws.{outcome_unique}
+use Rattle.wording.specs.declared.text.Text.{Text}
+use Rattle.wording.proofs.Told.{text_told}
+use Rattle.report_text.specs.declared.Reported.{Reported}
 use Rattle.wording.specs.Ascii.{ascii}
 use Rattle.wording.specs.Decimal.{digits_within, decimal, value_of}
 use Rattle.wording.specs.Hex.{digits_of, hex_read}
-use Rattle.wording.specs.Lines.{line, refused_line}
+use Rattle.wording.specs.Lines.{line}
 use Rattle.wording.proofs.Digits.{length-digits_of}
 use Rattle.wording.proofs.Laws.{there_and_back, line_reads}
-use Rattle.wording.proofs.Wrote.{length_line64}
 use Rattle.keytable.specs.Table.{head_ok, rows, row_parts, distinct, table_ok}
 use Rattle.report_text.specs.Dump.{dump_max}
-use Rattle.report_text.specs.Report.{record_bytes, open_line, open_lines, report_number, report_text, printed, report_room, reported}
+use Rattle.report_text.specs.Report.{record_bytes, open_line, open_lines, report_number, report_text, printed, report_room}
 use Rattle.report_text.specs.Laws.{EmptyReport, TableRefused, DumpRefused, DumpTaken, OpenLineReads, reported_says, ReportFits, ReportUnique, ReportTestsRise}
-use Rattle.report_text.proofs.Texts.{text_short}
+use Rattle.report_text.proofs.Texts.{printed_short}
 
 -- ---- the text
 
@@ -66,24 +67,21 @@ open-line_reads name room n bytes fits = record {
 
 -- ---- by value
 
-printed_short : (t d : List ℕ) → length (printed t d) ≤ report_room
-unfolding printed report_number
-printed_short t d = go (table_ok t) (ltb dump_max (length d)) refl refl
-  where
-    go : (ok long : Bool) → table_ok t ≡ ok → ltb dump_max (length d) ≡ long
-        → let n = lowest ((1, not ok) ∷ (4, long) ∷ []) in length (when (eqb n 0) (report_text t d) (refused_line n)) ≤ report_room
-    go false long et ed = omega (arith, length_line64 (ascii "refused") 1 (lit< tt))
-    go true true et ed = omega (arith, length_line64 (ascii "refused") 4 (lit< tt))
-    go true false et ed = text_short t d et (ltb-false dump_max (length d) ed)
-
 pub report_fits : ReportFits
 report_fits t d x e = record {
   room = sym (ap (λ (a : ℕ × ℕ × List ℕ). length a.2) e) ∙ length_over (printed t d) (replicate report_room 0) ∙ length-replicate {A = ℕ} report_room 0;
   size = rw (← ap (λ (a : ℕ × ℕ × List ℕ). a.1) e) (printed_short t d);
 }
 
+-- an outcome is told by its number, and a text by its size and bytes
 pub report_unique : ReportUnique
-report_unique t d = unique-by reported_says (λ (a : ℕ × ℕ × List ℕ). record { number = a.0; size = a.1; bytes = a.2 }) (λ x. refl) (reported t d)
+report_unique t d x y p q = ap₂ made (outcome_unique x.outcome y.outcome (ap (λ a. a.0) e)) (text_told x.text y.text (ap (λ a. (a.1, a.2)) e))
+  where
+    made : Result (Unit {0}) Refusal → Text report_room → Reported
+    made outcome text = record { outcome = outcome; text = text }
+
+    e : reported_says x ≡ reported_says y
+    e = p ∙ sym q
 
 pub report_tests_rise : ReportTestsRise
 report_tests_rise t d = refl

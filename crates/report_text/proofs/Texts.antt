@@ -1,29 +1,33 @@
 -- The report's text as the code writes it: a row's line in three pieces, the lines of all rows one after the other, and that every report fits its room.
 -- Assumes nothing.
 use mathlib.Core.Path.{◌≡◌, refl, sym, ap, ap₂, ◌∙◌}
-use mathlib.Core.Bool.{true, false}
-use mathlib.Core.List.{List, [], ◌∷◌, ◌++◌, append_assoc}
+use mathlib.Core.Bool.{Bool, true, false, not}
+use mathlib.Core.List.{List, [], ◌∷◌, ◌++◌, append_assoc, append-nil}
 use Prim.Native.Nat.{ℕ, suc, ◌+◌, ◌-◌, ◌*◌, ◌^◌, ◌≤◌, ◌<◌}
 use native.Mathlib.Nat.{add-zero, zero-add}
 use native.Mathlib.Numerals.{add-one}
 use native.Mathlib.Omega.{arith}
-use lib.ListN.{length, get_or, drop, replicate, length-append, length-replicate, drop_of_length-le}
+use lib.ListN.{length, get_or, drop, length-append, drop_of_length-le}
 use lib.Seq.{drop-cons}
-use borrow.Author.Tests.{lt-ltb, le-ltb}
+use borrow.Author.Tests.{lt-ltb, le-ltb, ltb-false, ne_eqb}
+use lib.Dec.{eqb, ltb, lit<}
+use Rattle.octets.specs.Lent.{when, lowest}
+use Rattle.refusals.specs.Numbers.{number_of}
+use Rattle.refusals.specs.declared.Refusal.{Refusal}
+use Rattle.refusals.proofs.Laws.{not_zero}
 use Rattle.wording.specs.Ascii.{ascii}
 use Rattle.wording.specs.Hex.{digits_of}
 use Rattle.wording.specs.Lines.{line, refused_line}
-use Rattle.wording.specs.Writing.{put_at, Wrote, WroteIfFits}
 use Rattle.wording.proofs.DecimalDigits.{length_decimal64}
 use Rattle.wording.proofs.Digits.{length-digits_of}
-use Rattle.wording.proofs.Wrote.{put_fits, nothing_wrote, put_wrote_if, both_wrote, wrote_front, length_line64}
+use Rattle.wording.proofs.Wrote.{length_line64}
 use Rattle.keytable.specs.Row.{name_max, Row}
 use Rattle.keytable.specs.Table.{row_place, rows_of, row_number, no_row, row_count, head_ok, table_ok, row_at}
 use Rattle.keytable.proofs.Accepted.{length-rows_of, rows_of_more, rows_of-done}
 use Rattle.keytable.proofs.Laws.{own_row, row_for_good, row_at-number}
 use Rattle.report_text.specs.Dump.{dump_max, records_in, tail_of}
 use Rattle.report_text.specs.Opens.{opens_by}
-use Rattle.report_text.specs.Report.{open_line, open_lines, report_text, report_number, printed, report_room, reported_as, reported}
+use Rattle.report_text.specs.Report.{record_bytes, open_line, open_lines, report_text, report_number, printed, report_room}
 use Rattle.report_text.specs.Counted.{Reportable, count_lines}
 use Rattle.report_text.proofs.Dump.{lengths_add_up, records_few}
 use Rattle.report_text.proofs.Opening.{opens_few}
@@ -31,31 +35,26 @@ use Rattle.report_text.proofs.Counts.{rows_few}
 
 -- ---- a row's line: `open `, the digits of the name, and the number
 
-pub open_wrote : (name : List ℕ) (n : ℕ) {at a b e : ℕ} {room r₁ r₂ final : List ℕ} → put_at at (ascii "open ") room ≡ (a, r₁) → put_at a (digits_of true name) r₁ ≡ (b, r₂)
-    → put_at b (line [] n) r₂ ≡ (e, final) → WroteIfFits at (open_line name n) room final e
-open_wrote name n {at} {e = e} {room = room} {final = final} p q r =
-    rw (append_assoc (ascii "open ") (digits_of true name) (line [] n)) at (both_wrote (both_wrote (put_wrote_if p) (put_wrote_if q)) (put_wrote_if r))
+pub open_said : (name : List ℕ) (n : ℕ) → open_line name n ≡ ascii "open " ++ (digits_of true name ++ line [] n)
+open_said name n = append_assoc (ascii "open ") (digits_of true name) (line [] n)
 
 -- ---- the lines of the rows
 
 -- what is left at row i: its line, and those after it
-pub rows_turn : (t counts : List ℕ) (i place : ℕ) {name : List ℕ} {n : ℕ} {at m e : ℕ} {room between final : List ℕ} → head_ok t ≡ true → i < row_count t
-    → place ≡ row_place i → name ≡ (row_at t place).row_name → n ≡ get_or counts i 0 → WroteIfFits at (open_line name n) room between m
-    → WroteIfFits m (count_lines counts (i + 1) (drop (i + 1) (rows_of t))) between final e → WroteIfFits at (count_lines counts i (drop i (rows_of t))) room final e
+pub rows_turn : (t counts : List ℕ) (i place : ℕ) {name : List ℕ} → head_ok t ≡ true → i < row_count t → place ≡ row_place i
+    → name ≡ (row_at t place).row_name
+    → count_lines counts i (drop i (rows_of t)) ≡ open_line name (get_or counts i 0) ++ count_lines counts (i + 1) (drop (i + 1) (rows_of t))
 unfolding count_lines
-rows_turn t counts i place {name} head below there name_is count_is first rest = rw whole (both_wrote (rw (name_here, count_is) at first) rest)
+rows_turn t counts i place {name} head below there name_is =
+    ap (count_lines counts i) (drop-cons (rows_of t) i no_row (rows_of_more t i below))
+    ∙ ap₂ (λ (s : List ℕ) (j : ℕ). open_line s (get_or counts i 0) ++ count_lines counts (i + 1) (drop j (rows_of t))) (sym name_here) (sym (add-one i))
   where
     name_here : name ≡ (row_number (rows_of t) i).row_name
     name_here = name_is ∙ ap (λ (row : Row). row.row_name) (ap (row_at t) there ∙ row_at-number t i head below)
 
-    whole : count_lines counts i (drop i (rows_of t)) ≡ open_line (row_number (rows_of t) i).row_name (get_or counts i 0) ++ count_lines counts (i + 1) (drop (i + 1) (rows_of t))
-    whole =
-        ap (count_lines counts i) (drop-cons (rows_of t) i no_row (rows_of_more t i below))
-        ∙ ap (λ (j : ℕ). open_line (row_number (rows_of t) i).row_name (get_or counts i 0) ++ count_lines counts (i + 1) (drop j (rows_of t))) (sym (add-one i))
-
-pub rows_end : (t counts : List ℕ) (i : ℕ) {at : ℕ} {room : List ℕ} → row_count t ≤ i → WroteIfFits at (count_lines counts i (drop i (rows_of t))) room room at
+pub rows_end : (t counts : List ℕ) (i : ℕ) → row_count t ≤ i → count_lines counts i (drop i (rows_of t)) ≡ []
 unfolding count_lines
-rows_end t counts i {at} {room} h = rw (drop_of_length-le (rows_of t) (rows_of-done t i h)) (nothing_wrote at room)
+rows_end t counts i h = rw (drop_of_length-le (rows_of t) (rows_of-done t i h))
 
 -- with the counts of a dump they are the report's
 count-lines : (counts : List ℕ) (k : ℕ) (xs : List Row) (rs : List (List ℕ)) → ((i : ℕ) → i < length xs → get_or counts (k + i) 0 ≡ opens_by (row_number xs i) rs)
@@ -101,15 +100,18 @@ text_short t d ok short =
         let row = row_number (rows_of t) i in
         (row_for_good t row.row_type row.row_name row ok (own_row t i ok (omega (arith, h, length-rows_of t)))).name_short
 
--- ---- the text by value
-
-pub refused_wrote : (n : ℕ) {final : List ℕ} {e : ℕ} → n < 2 ^ 64 → put_at 0 (refused_line n) (replicate report_room 0) ≡ (e, final) → reported_as n (refused_line n) ≡ (n, e, final)
-refused_wrote n small p =
-    let fits : 0 + length (refused_line n) ≤ length (replicate {A = ℕ} report_room 0) = omega (arith, length_line64 (ascii "refused") n small, length-replicate {A = ℕ} report_room 0) in
-    ap (λ (x : ℕ × List ℕ). (n, x.0, x.1)) (wrote_front (put_fits 0 (refused_line n) (replicate report_room 0) fits p))
+pub printed_short : (t d : List ℕ) → length (printed t d) ≤ report_room
+unfolding printed report_number
+printed_short t d = go (table_ok t) (ltb dump_max (length d)) refl refl
+  where
+    go : (ok long : Bool) → table_ok t ≡ ok → ltb dump_max (length d) ≡ long
+        → let n = lowest ((1, not ok) ∷ (4, long) ∷ []) in length (when (eqb n 0) (report_text t d) (refused_line n)) ≤ report_room
+    go false long et ed = omega (arith, length_line64 (ascii "refused") 1 (lit< tt))
+    go true true et ed = omega (arith, length_line64 (ascii "refused") 4 (lit< tt))
+    go true false et ed = text_short t d et (ltb-false dump_max (length d) ed)
 
 -- the four pieces of a report, of what was counted
-module _ {t d opens : List ℕ} {rows records bytes room : ℕ} (r : Reportable t d rows records bytes opens room) where
+module _ {t d opens : List ℕ} {rows records bytes : ℕ} (r : Reportable t d rows records bytes opens) where
   lines_are : count_lines opens 0 (rows_of t) ≡ open_lines (rows_of t) (records_in d)
   lines_are =
       count-lines opens 0 (rows_of t) (records_in d)
@@ -121,32 +123,32 @@ module _ {t d opens : List ℕ} {rows records bytes room : ℕ} (r : Reportable 
   tail_is : length d - bytes ≡ length (tail_of d)
   tail_is = omega (arith, r.counts.bytes_are, lengths_add_up d)
 
-  pub report_wrote : {a b c e : ℕ} {before r₁ r₂ r₃ final : List ℕ} → length before ≡ room → put_at 0 (line (ascii "records") records) before ≡ (a, r₁)
-      → put_at a (line (ascii "bytes") bytes) r₁ ≡ (b, r₂) → WroteIfFits b (count_lines opens 0 (rows_of t)) r₂ r₃ c
-      → put_at c (line (ascii "tail") (length d - bytes)) r₃ ≡ (e, final) → Wrote 0 (report_text t d) before final e
+  pub report_said : report_text t d ≡ line (ascii "records") records ++ (line (ascii "bytes") bytes ++ (count_lines opens 0 (rows_of t) ++ line (ascii "tail") (length d - bytes)))
   unfolding report_text
-  report_wrote {e = e} {before = before} {final = final} size p q w s = all.wrote (omega (arith, text_short t d r.accepted r.short, r.fits, size))
-    where
-      all : WroteIfFits 0 (report_text t d) before final e
-      all =
-          both_wrote (rw r.counts.records_are at (put_wrote_if p))
-          (both_wrote (rw r.counts.bytes_are at (put_wrote_if q))
-          (both_wrote (rw lines_are at w) (both_wrote (rw tail_is at (put_wrote_if s)) (nothing_wrote e final))))
+  report_said =
+      rw (r.counts.records_are, tail_is, r.counts.bytes_are, lines_are)
+      (ap (λ (l : List ℕ). line (ascii "records") (length (records_in d)) ++ (line (ascii "bytes") (record_bytes (records_in d)) ++ (open_lines (rows_of t) (records_in d) ++ l)))
+      (append-nil (line (ascii "tail") (length (tail_of d)))))
 
 -- ---- which text
 
 module _ (t d : List ℕ) where
-  pub reported-one : table_ok t ≡ false → reported t d ≡ reported_as 1 (refused_line 1)
-  unfolding printed report_number
-  reported-one e = rw e
+  pub number-one : table_ok t ≡ false → report_number t d ≡ 1
+  unfolding report_number
+  number-one e = rw e
 
-  pub reported_four : table_ok t ≡ true → dump_max < length d → reported t d ≡ reported_as 4 (refused_line 4)
-  unfolding printed report_number
-  reported_four ok long = rw (ok, lt-ltb dump_max (length d) long)
+  pub number_four : table_ok t ≡ true → dump_max < length d → report_number t d ≡ 4
+  unfolding report_number
+  number_four ok long = rw (ok, lt-ltb dump_max (length d) long)
 
-  pub reported-zero : table_ok t ≡ true → length d ≤ dump_max → reported t d ≡ reported_as 0 (report_text t d)
-  unfolding printed report_number
-  reported-zero ok short = rw (ok, le-ltb dump_max (length d) short)
+  pub number-zero : table_ok t ≡ true → length d ≤ dump_max → report_number t d ≡ 0
+  unfolding report_number
+  number-zero ok short = rw (ok, le-ltb dump_max (length d) short)
 
-  pub reported-done : {final : List ℕ} {e : ℕ} → table_ok t ≡ true → length d ≤ dump_max → Wrote 0 (report_text t d) (replicate report_room 0) final e → reported t d ≡ (0, e, final)
-  reported-done ok short w = reported-zero ok short ∙ ap (λ (x : ℕ × List ℕ). (0, x.0, x.1)) (wrote_front w)
+  pub printed_report : report_number t d ≡ 0 → printed t d ≡ report_text t d
+  unfolding printed
+  printed_report e = rw e
+
+  pub printed-refused : (e : Refusal) → report_number t d ≡ number_of e → printed t d ≡ refused_line (number_of e)
+  unfolding printed
+  printed-refused e is = rw (is, ne_eqb (number_of e) 0 (λ z. not_zero e (sym z)))

@@ -6,7 +6,7 @@ use Rattle.keytable.specs.Row.{Row}
 use Rattle.keytable.specs.Table.{row_max, row_count, rows_of, row_number, table_ok}
 use Rattle.report_text.specs.Dump.{dump_max, records_in}
 use Rattle.report_text.specs.Opens.{opens_with, opens_by}
-use Rattle.report_text.specs.Report.{record_bytes, open_line, report_room}
+use Rattle.report_text.specs.Report.{record_bytes, open_line}
 
 -- a count for each row that a table may have, none so large that one more runs over
 pub record Countable (t opens : List ℕ) : Type 0 where
@@ -24,13 +24,12 @@ pub record CountsAll (t d : List ℕ) (records bytes : ℕ) (opens : List ℕ) :
   pub bytes_are : bytes ≡ record_bytes (records_in d)
   pub opens_are : (i : ℕ) → i < row_count t → get_or opens i 0 ≡ opens_by (row_number (rows_of t) i) (records_in d)
 
--- what the text is written from: an accepted table, its number of rows, the counts of a dump that is not too long, and room
-pub record Reportable (t d : List ℕ) (rows records bytes : ℕ) (opens : List ℕ) (room : ℕ) : Type 0 where
+-- what the text is written from: an accepted table, its number of rows, and the counts of a dump that is not too long
+pub record Reportable (t d : List ℕ) (rows records bytes : ℕ) (opens : List ℕ) : Type 0 where
   pub accepted : table_ok t ≡ true
   pub rows_are : rows ≡ row_count t
   pub counts : CountsAll t d records bytes opens
   pub short : length d ≤ dump_max
-  pub fits : report_room ≤ room
 
 -- the lines of rows whose counts stand from number i on
 unfoldable pub count_lines : List ℕ → ℕ → List Row → List ℕ

@@ -3,6 +3,7 @@
 use Rattle.std.specs.Prelude.{◌≡◌, ◌↔◌, true, false, ℕ, ◌+◌, ◌-◌, ◌*◌, ◌≤◌, ◌<◌, eqb, length, get_or}
 use mathlib.Core.List.{List, [], ◌++◌, flatten}
 use Rattle.std.proofs.Math.Option.{some}
+use Rattle.refusals.specs.Numbers.{outcome_number}
 use Rattle.octets.specs.Bytes.{Bytes}
 use Rattle.octets.specs.Lent.{over}
 use Rattle.octets.specs.Lowest.{rises}
@@ -124,11 +125,11 @@ OpenLineReads = (name room : List ℕ) (n : ℕ) → Bytes name → length name 
 -- ---- by value: within its room, and one for each input
 
 abbrev pub reported_says : Reported → ℕ × ℕ × List ℕ
-reported_says x = (x.number, x.size, x.bytes)
+reported_says x = (outcome_number x.outcome, x.text.size, x.text.bytes)
 
 pub record ReportedFits (x : Reported) : Type 0 where
-  pub room : length x.bytes ≡ report_room
-  pub size : x.size ≤ report_room
+  pub room : length x.text.bytes ≡ report_room
+  pub size : x.text.size ≤ report_room
 
 abbrev pub ReportFits : Type 0
 ReportFits = (t d : List ℕ) (x : Reported) → reported t d ≡ reported_says x → ReportedFits x

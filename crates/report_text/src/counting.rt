@@ -4,14 +4,14 @@ ghost use Rattle.keytable.specs.Table.{table_ok};
 ghost use Rattle.report_text.specs.Dump.{dump_max};
 ghost use Rattle.report_text.specs.Counted.{Countable, CountsOne, CountsAll};
 
-use crate::reading::{place_after, record_size};
+use crate::reading::Records;
 use keytable::{ROW_MAX, number_at};
-use octets::strings::part;
-use record::opening::{Opening, opened_by};
+use record::opening::opened_by;
 
-// How many records, how long they are together, and how many open by each row of the table.
-#[derive(Drop)]
+// How many rows the table has, how many records the dump, how long they are together, and how many open by each row.
+#[derive(Clone, Copy)]
 pub(crate) struct Counted {
+    pub(crate) rows: usize,
     pub(crate) records: usize,
     pub(crate) bytes: usize,
     pub(crate) opens: [u64; ROW_MAX],
@@ -22,31 +22,28 @@ fn count_record(table: &[u8], r: &[u8], opens: &mut [u64])
     requires { (table_ok table.now ≡ true) × Countable table.now opens.old }
     ensures { CountsOne table.now r.now opens.old opens.new }
 {
-    let Opening::By(at) = opened_by(table, r, part(r, 0, 0)) else {
-        return;
-    };
-    let i = number_at(at);
-    opens[i] += 1;
+    if let Ok(at) = opened_by(table, r, &[]) {
+        opens[number_at(at)] += 1;
+    }
 }
 
-// Each record's tag is tested once, and the place moves on by each record's own length.
-pub(crate) fn count(table: &[u8], dump: &[u8]) -> Counted
+// Each record's tag is tested once.
+pub(crate) fn count(table: &[u8], rows: usize, dump: &[u8]) -> Counted
     requires { (table_ok table.now ≡ true) × (length dump.now ≤ dump_max) }
-    ensures { CountsAll table.now dump.now result.records result.bytes result.opens }
+    ensures { (result.rows ≡ rows) × CountsAll table.now dump.now result.records result.bytes result.opens }
 {
     let mut opens = [0u64; ROW_MAX];
     let mut records = 0;
-    let mut at = 0;
-    let mut size = record_size(dump, at);
-    while 0 < size {
-        count_record(table, part(dump, at, size), &mut opens);
+    let mut bytes = 0;
+    for record in (Records { rest: dump }) {
+        count_record(table, record, &mut opens);
         records += 1;
-        at = place_after(at, size);
-        size = record_size(dump, at);
+        bytes += record.len();
     }
     Counted {
+        rows,
         records,
-        bytes: at,
+        bytes,
         opens,
     }
 }

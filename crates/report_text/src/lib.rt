@@ -5,16 +5,17 @@ mod counting;
 mod lines;
 mod reading;
 
-ghost use Rattle.std.specs.Prelude.{◌≡◌, length};
-ghost use Rattle.wording.specs.Lines.{refused_line};
-ghost use Rattle.wording.specs.Writing.{Wrote};
-ghost use Rattle.report_text.specs.Report.{report_text, reported_as, reported};
+ghost use Rattle.std.specs.Prelude.{◌≡◌, MatchResult};
+ghost use Rattle.refusals.specs.Numbers.{number_of, outcome_number};
+ghost use Rattle.wording.specs.Writer.{Adds};
+ghost use Rattle.report_text.specs.Report.{report_text, report_number, printed, reported};
 ghost use Rattle.report_text.specs.Counted.{Reportable};
 
 use counting::{Counted, count};
-use keytable::Table;
 use lines::put_rows;
-use wording::writing::put_line;
+use refusals::Refusal;
+use wording::text::Text;
+use wording::writing::Writer;
 
 // The longest dump that is read.
 const DUMP_MAX: usize = 65536;
@@ -22,55 +23,73 @@ const DUMP_MAX: usize = 65536;
 // Room for the text of any report: 64 lines of at most 91 bytes, and three more.
 const ROOM: usize = 6144;
 
-// A text by value: the number that refuses the table or the dump, or 0; the text's size, and its bytes with zeros after them.
-#[derive(Drop)]
+// What is refused, if anything, and what is printed in either case.
+#[derive(Clone, Copy)]
 pub struct Reported {
-    pub number: u8,
-    pub size: usize,
-    pub bytes: [u8; ROOM],
+    pub outcome: Result<(), Refusal>,
+    pub text: Text<ROOM>,
+}
+
+// The records of a dump counted, where neither the table nor the dump is refused.
+fn count_accepted(table: &[u8], dump: &[u8]) -> Result<Counted, Refusal>
+    ensures { MatchResult result (λ c. (report_number table.now dump.now ≡ 0) × Reportable table.now dump.now c.rows c.records c.bytes c.opens)
+        (λ e. report_number table.now dump.now ≡ number_of e) }
+{
+    let rows = keytable::check(table)?;
+    let longer = DUMP_MAX < dump.len();
+    if longer {
+        return Err(Refusal::PastMaximum);
+    }
+    Ok(count(table, rows, dump))
 }
 
 // The text of what was counted; the tail is what the records leave of the dump.
-fn put_report(table: &[u8], rows: usize, dump: &[u8], counted: Counted, out: &mut [u8]) -> usize
-    requires { Reportable table.now dump.now rows counted.records counted.bytes counted.opens (length out.old) }
-    ensures { Wrote 0 (report_text table.now dump.now) out.old out.new result }
+fn put_report(
+    writer: &mut Writer<'_>,
+    table: &[u8],
+    dump: &[u8],
+    counted: Counted,
+) -> Result<(), Refusal>
+    requires { Reportable table.now dump.now counted.rows counted.records counted.bytes counted.opens }
+    ensures { Adds (report_text table.now dump.now) writer.old writer.new result }
 {
-    let opens = counted.opens;
-    let bytes_at = put_line(out, 0, b"records", counted.records as u64);
-    let rows_at = put_line(out, bytes_at, b"bytes", counted.bytes as u64);
-    let tail_at = put_rows(table, rows, opens, out, rows_at);
-    put_line(out, tail_at, b"tail", (dump.len() - counted.bytes) as u64)
+    writer.put_line(b"records", counted.records as u64)?;
+    writer.put_line(b"bytes", counted.bytes as u64)?;
+    put_rows(writer, table, counted.rows, counted.opens)?;
+    writer.put_line(b"tail", (dump.len() - counted.bytes) as u64)
 }
 
-// `refused` and the number.
-fn refused(number: u8) -> Reported
-    ensures { reported_as number (refused_line number) ≡ (result.number, result.size, result.bytes) }
+// The text of what was counted, or `refused` and the number.
+fn put_printed(
+    writer: &mut Writer<'_>,
+    table: &[u8],
+    dump: &[u8],
+    counted: Result<Counted, Refusal>,
+) -> Result<(), Refusal>
+    requires { MatchResult counted (λ c. (report_number table.now dump.now ≡ 0) × Reportable table.now dump.now c.rows c.records c.bytes c.opens)
+        (λ e. report_number table.now dump.now ≡ number_of e) }
+    ensures { Adds (printed table.now dump.now) writer.old writer.new result }
 {
-    let mut bytes = [0u8; ROOM];
-    let size = put_line(&mut bytes, 0, b"refused", number as u64);
-    Reported {
-        number,
-        size,
-        bytes,
+    match counted {
+        Ok(counted) => put_report(writer, table, dump, counted),
+        Err(refusal) => writer.put_line(b"refused", refusal.number() as u64),
     }
 }
 
-// The report over a dump, by a table.
+// The report over a dump, by a table. Its text always has room.
 pub fn report(table: &[u8], dump: &[u8]) -> Reported
-    ensures { reported table.now dump.now ≡ (result.number, result.size, result.bytes) }
+    ensures { reported table.now dump.now ≡ (outcome_number result.outcome, result.text.size, result.text.bytes) }
 {
-    let Table::Rows(rows) = keytable::check(table) else {
-        return refused(1);
-    };
-    let longer = DUMP_MAX < dump.len();
-    if longer {
-        return refused(4);
-    }
+    let counted = count_accepted(table, dump);
     let mut bytes = [0u8; ROOM];
-    let size = put_report(table, rows, dump, count(table, dump), &mut bytes);
+    let mut writer = Writer {
+        out: &mut bytes,
+        at: 0,
+    };
+    put_printed(&mut writer, table, dump, counted).unwrap();
+    let size = writer.at;
     Reported {
-        number: 0,
-        size,
-        bytes,
+        outcome: counted.map(|_| ()),
+        text: Text { size, bytes },
     }
 }
