@@ -38,6 +38,7 @@ pub(crate) fn last_round(s: State, k: State) -> State
 }
 
 // Rounds 1 to 13.
+#[tactic(auto, unfolding(crate::specs::Cipher::first_rounds))]
 pub(crate) fn all_rounds(ks: RoundKeys, s: State) -> State
     ensures { result ≡ first_rounds ks 13 s }
 {

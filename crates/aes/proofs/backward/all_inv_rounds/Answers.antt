@@ -1,11 +1,8 @@
 -- `aes::backward::all_inv_rounds` meets its contract: undoing the i rounds left gives the result.
 -- Assumes nothing.
-use Rattle.std.proofs.Common.{refl, arith}
+use Rattle.std.proofs.Common.{arith}
 use Rattle.aes.proofs.Rounds.{inv_rounds_less, inv_rounds_end}
 use Rattle.aes.proofs.backward.all_inv_rounds.Goals as goal
-
-pub loop-i-init : goal.loop-i-init
-loop-i-init c = refl
 
 pub loop-i-preserved : goal.loop-i-preserved
 loop-i-preserved c = inv_rounds_less _ _ _ _ _ c.loop-i-test.true c.loop-i.invariant c.inv_round-next.ensures

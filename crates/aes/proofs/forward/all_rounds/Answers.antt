@@ -1,14 +1,10 @@
 -- `aes::forward::all_rounds` meets its contract: the round keys that are gone over are those from 1 on.
 -- Assumes nothing.
-use Rattle.std.proofs.Common.{◌≡◌, ℕ, ◌+◌, ◌<◌, [], refl, ap, ◌∙◌, arith, get_or, drop, length, length-take, length-drop}
+use Rattle.std.proofs.Common.{◌≡◌, ℕ, ◌+◌, ◌<◌, [], ap, ◌∙◌, arith, get_or, drop, length, length-take, length-drop}
 use lib.Seq.{get_or-take, get_or-drop}
-use Rattle.aes.specs.Cipher.{round, first_rounds}
+use Rattle.aes.specs.Cipher.{round}
 use Rattle.aes.proofs.Rounds.{rounds_more}
 use Rattle.aes.proofs.forward.all_rounds.Goals as goal
-
-pub loop-k-init : goal.loop-k-init
-unfolding first_rounds
-loop-k-init c = refl
 
 pub loop-k-preserved : goal.loop-k-preserved
 loop-k-preserved c =
