@@ -22,7 +22,7 @@ use Rattle.descriptors.specs.declared.cursor.Begun.{Begun}
 use Rattle.descriptors.proofs.Answers.{begun-counted, ok-counted}
 use Rattle.descriptors.proofs.Laws.{accepts_exactly, accepts_label}
 use Rattle.keypage.specs.Layout.{key_part_at}
-use Rattle.keypage.specs.Page.{key_length_lem, page_strict, list_in, fields_of}
+use Rattle.keypage.specs.Page.{key_length_of, page_strict, list_in, fields_of}
 use Rattle.keypage.specs.Read.{page_read_number, page_read_answer}
 use Rattle.keypage.proofs.Laws.{reads_exactly}
 use Rattle.descriptor_text.specs.Lines.{descriptor_lines, list_text}
@@ -74,7 +74,7 @@ pub page-list-ok : (p : List ℕ) → page_read_number p ≡ 0 → (list_ok fals
 unfolding page_read_answer
 page-list-ok p zero =
     let read = ((reads_exactly p [] (fields_of p)).0 answers).0 in
-    (list-ok false page_strict (list_in p) read.count read.laid.list, omega (arith, read.laid.short, length-drop (key_part_at + key_length_lem p) p))
+    (list-ok false page_strict (list_in p) read.count read.laid.list, omega (arith, read.laid.short, length-drop (key_part_at + key_length_of p) p))
   where
     answers : page_read_answer p [] ≡ (0, fields_of p)
     answers = rw zero

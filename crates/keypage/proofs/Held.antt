@@ -9,8 +9,8 @@ use Rattle.octets.specs.Tests.{part_of}
 use Rattle.octets.proofs.Tests.{part_short, drop_part, part_part}
 use Rattle.octets.proofs.Unique.{unique}
 use Rattle.keypage.specs.Layout.{key_part_at}
-use Rattle.keypage.specs.Page.{format_in, key_length_lem, key_part_lem, list_at}
-use Rattle.keypage.specs.KeyPart.{identifier_size_lem, identifier_at, wrapped_at}
+use Rattle.keypage.specs.Page.{format_in, key_length_of, key_part_of, list_at}
+use Rattle.keypage.specs.KeyPart.{identifier_size_of, identifier_at, wrapped_at}
 use Rattle.keypage.specs.Read.{page_read_number}
 use Rattle.keypage.specs.Places.{not_wrapped, wrapped_places, places_of, places_answer}
 use Rattle.keypage.specs.Laws.{PartLaid, plain, reference, wrapped, PlacesTell, WrappedTold, WrappedTell, OthersTellNone, PlacesUnique}
@@ -36,15 +36,15 @@ module _ (p before at : List ℕ) (e : places_answer p before ≡ (0, at)) where
 pub places_tell : PlacesTell
 unfolding places_of
 places_tell p before at e =
-    let size : key_length_lem p ≡ list_at p - key_part_at = omega arith in
+    let size : key_length_of p ≡ list_at p - key_part_at = omega arith in
     rw (stored p before at e) (record { key_part = ap (part_of p key_part_at) size; list = refl })
 
 pub wrapped_tell : WrappedTell
 unfolding places_of
-wrapped_tell p before at e is = rw (stored p before at e, of-wrapped (format_in p) not_wrapped not_wrapped (wrapped_places (key_part_lem p)) not_wrapped is) told
+wrapped_tell p before at e is = rw (stored p before at e, of-wrapped (format_in p) not_wrapped not_wrapped (wrapped_places (key_part_of p)) not_wrapped is) told
   where
     s : List ℕ
-    s = key_part_lem p
+    s = key_part_of p
 
     -- the identifier ends within the KEY part
     within : wrapped_at s ≤ length s
@@ -55,23 +55,23 @@ wrapped_tell p before at e is = rw (stored p before at e, of-wrapped (format_in 
         go (reference f least most) = absurd (omega (arith, f, is))
         go (wrapped f low high there most fits) = fits
 
-    inside : wrapped_at s ≤ key_length_lem p
-    inside = omega (arith, within, part_short p key_part_at (key_length_lem p))
+    inside : wrapped_at s ≤ key_length_of p
+    inside = omega (arith, within, part_short p key_part_at (key_length_of p))
 
     told : WrappedTold p (list_at p ∷ wrapped_places s)
     told =
-        let size : identifier_size_lem s ≡ key_part_at + wrapped_at s - (key_part_at + identifier_at) = omega arith in
-        let rest : key_length_lem p - wrapped_at s ≡ list_at p - (key_part_at + wrapped_at s) = omega arith in
+        let size : identifier_size_of s ≡ key_part_at + wrapped_at s - (key_part_at + identifier_at) = omega arith in
+        let rest : key_length_of p - wrapped_at s ≡ list_at p - (key_part_at + wrapped_at s) = omega arith in
         record {
           type = refl;
-          identifier = part_part p key_part_at (key_length_lem p) identifier_at (identifier_size_lem s) inside ∙ ap (part_of p (key_part_at + identifier_at)) size;
-          wrapped_key = drop_part p key_part_at (key_length_lem p) (wrapped_at s) ∙ ap (part_of p (key_part_at + wrapped_at s)) rest;
+          identifier = part_part p key_part_at (key_length_of p) identifier_at (identifier_size_of s) inside ∙ ap (part_of p (key_part_at + identifier_at)) size;
+          wrapped_key = drop_part p key_part_at (key_length_of p) (wrapped_at s) ∙ ap (part_of p (key_part_at + wrapped_at s)) rest;
         }
 
 pub others_tell-none : OthersTellNone
 unfolding places_of
 others_tell-none p before at e other =
-    ap (drop 1) (stored p before at e) ∙ not-wrapped (format_in p) (wrapped_places (key_part_lem p)) not_wrapped other
+    ap (drop 1) (stored p before at e) ∙ not-wrapped (format_in p) (wrapped_places (key_part_of p)) not_wrapped other
 
 pub places_unique : PlacesUnique
 places_unique p at = unique (places_answer p at)

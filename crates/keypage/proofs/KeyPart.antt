@@ -14,7 +14,7 @@ use Rattle.octets.proofs.Lent.{is_not-false, is_not_right}
 use Rattle.octets.proofs.Tests.{every_at}
 use Rattle.keytable.specs.Row.{name_max, row_key_size, is_kek_type}
 use Rattle.keypage.specs.KeyPart.{plain_format, reference_format, wrapped_format, reference_min, by_format, needs_row}
-use Rattle.keypage.specs.KeyPart.{kek_type, identifier_size_lem, identifier_at, wrapped_tests, part_broken, part_refused, part_long}
+use Rattle.keypage.specs.KeyPart.{kek_type, identifier_size_of, identifier_at, wrapped_tests, part_broken, part_refused, part_long}
 use Rattle.keypage.specs.Laws.{PartLaid, plain, reference, wrapped}
 
 -- ---- what format 04h's value has
@@ -114,18 +114,18 @@ module _ (s : List ℕ) where
       let tests = not-false (every (wrapped_tests s)) h.whole in
       let kind = kek-type (kek_type s) (not-false (is_kek_type (kek_type s)) h.permitted) in
       wrapped refl kind.0 kind.1
-      (leb-true 1 (identifier_size_lem s) (every_at (wrapped_tests s) 1 tests))
-      (ltb-false name_max (identifier_size_lem s) h.short)
-      (leb-true (identifier_at + identifier_size_lem s) (length s) (every_at (wrapped_tests s) 2 tests))
+      (leb-true 1 (identifier_size_of s) (every_at (wrapped_tests s) 1 tests))
+      (ltb-false name_max (identifier_size_of s) h.short)
+      (leb-true (identifier_at + identifier_size_of s) (length s) (every_at (wrapped_tests s) 2 tests))
 
-  laid-wrapped : 1 ≤ kek_type s → kek_type s ≤ 2 → 1 ≤ identifier_size_lem s → identifier_size_lem s ≤ name_max → identifier_at + identifier_size_lem s ≤ length s
+  laid-wrapped : 1 ≤ kek_type s → kek_type s ≤ 2 → 1 ≤ identifier_size_of s → identifier_size_of s ≤ name_max → identifier_at + identifier_size_of s ≤ length s
       → PartPassed wrapped_format s
   unfolding part_broken part_refused part_long
   laid-wrapped low high there most within =
       record {
-        whole = rw (le-leb identifier_at (length s) (omega arith), le-leb 1 (identifier_size_lem s) there, le-leb (identifier_at + identifier_size_lem s) (length s) within);
+        whole = rw (le-leb identifier_at (length s) (omega arith), le-leb 1 (identifier_size_of s) there, le-leb (identifier_at + identifier_size_of s) (length s) within);
         permitted = ap not (type_kek (kek_type s) low high);
-        short = le-ltb name_max (identifier_size_lem s) most;
+        short = le-ltb name_max (identifier_size_of s) most;
       }
 
 -- ---- and of any format

@@ -17,7 +17,7 @@ use Rattle.keytable.specs.Table.{table_ok, data_row}
 use Rattle.keytable.proofs.Laws.{row_for_good, kek-row_more, data-row_more}
 use Rattle.keywrap.specs.Laws.{UnwrapsTo}
 use Rattle.keywrap.proofs.Laws.{unwraps_exactly, one_key, unwrap_nine_exactly, wrapped-length}
-use Rattle.keypage.specs.Page.{algorithm_in, format_in, key_part_lem, fields_of}
+use Rattle.keypage.specs.Page.{algorithm_in, format_in, key_part_of, fields_of}
 use Rattle.keypage.specs.KeyPart.{plain_format, reference_format, wrapped_format, kek_type, identifier_of, wrapped_of, part_refused}
 use Rattle.keypage.specs.Read.{page_read_number, page_read_answer}
 use Rattle.keypage.specs.Load.{kek_row, row_named, key_in, key_loaded, load_answer}
@@ -49,32 +49,32 @@ reads_exactly p fields after = (to, from)
 pub loads-plain : LoadsPlain
 unfolding key_loaded
 loads-plain t p out fields given is =
-    let size = plain_size (key_part_lem p) (rw is at (read_part p given.readable)) in
-    key_loads t p out fields given plain_format is (key_part_lem p) refl size refl
+    let size = plain_size (key_part_of p) (rw is at (read_part p given.readable)) in
+    key_loads t p out fields given plain_format is (key_part_of p) refl size refl
 
 pub loads-reference : LoadsReference
 unfolding key_loaded
 loads-reference t p out fields k given is = (to, from)
   where
     ByRow : Type 0
-    ByRow = (row : Row) × (data_row t (key_part_lem p) ≡ some row) × (row.row_use ≡ algorithm_in p) × (row.row_key ≡ k)
+    ByRow = (row : Row) × (data_row t (key_part_of p) ≡ some row) × (row.row_use ≡ algorithm_in p) × (row.row_key ≡ k)
 
     to : Loads t p out fields k → ByRow
     to h =
         let zero = load_told t p out fields given reference_format is k h in
-        let no = part_passed (data_row t (key_part_lem p)) (algorithm_in p) reference_format (key_part_lem p) zero in
-        let (row, has) = part-row (data_row t (key_part_lem p)) (algorithm_in p) reference_format (key_part_lem p) refl (no 0) in
-        let size : length (key_in (data_row t (key_part_lem p))) ≡ row_key_size = rw has (row_for_good t data_type (key_part_lem p) row given.table_accepted has).key_size in (
+        let no = part_passed (data_row t (key_part_of p)) (algorithm_in p) reference_format (key_part_of p) zero in
+        let (row, has) = part-row (data_row t (key_part_of p)) (algorithm_in p) reference_format (key_part_of p) refl (no 0) in
+        let size : length (key_in (data_row t (key_part_of p))) ≡ row_key_size = rw has (row_for_good t data_type (key_part_of p) row given.table_accepted has).key_size in (
           row,
           has,
-          part_use row (algorithm_in p) (key_part_lem p) (rw has at (no 1)),
+          part_use row (algorithm_in p) (key_part_of p) (rw has at (no 1)),
           ap key_in (sym has) ∙ load_key t p out fields given reference_format is k size h,
         )
 
     from : ByRow → Loads t p out fields k
     from (row, has, use_is, key-is) =
-        key_loads t p out fields given reference_format is k (rw has (reference_passed row (algorithm_in p) (key_part_lem p) use_is))
-        (sym (ap length key-is) ∙ (row_for_good t data_type (key_part_lem p) row given.table_accepted has).key_size)
+        key_loads t p out fields given reference_format is k (rw has (reference_passed row (algorithm_in p) (key_part_of p) use_is))
+        (sym (ap length key-is) ∙ (row_for_good t data_type (key_part_of p) row given.table_accepted has).key_size)
         (ap (λ (l : List ℕ). over l out) (ap key_in has ∙ key-is))
 
 -- ---- a wrapped key, by what wraps
@@ -84,7 +84,7 @@ load_nine_exactly t p out fields row bytes-t bytes-p m = (to, from)
   where
     by_wrapping : (unwrapping p out row ≡ (9, out)) ↔ ((k : List ℕ) → WrapsUnder row k p → ⊥)
     by_wrapping =
-        unwrap_nine_exactly row.row_key (wrapped_of (key_part_lem p)) out (kek_size t p out row m) (kek_bytes t p out row m bytes-t) m.size
+        unwrap_nine_exactly row.row_key (wrapped_of (key_part_of p)) out (kek_size t p out row m) (kek_bytes t p out row m bytes-t) m.size
         (wrapped_bytes_of p bytes-p) m.given.key_fits
 
     to : load_answer t p out fields ≡ ((9, out), fields) → (k : List ℕ) → WrapsUnder row k p → ⊥
@@ -96,9 +96,9 @@ load_nine_exactly t p out fields row bytes-t bytes-p m = (to, from)
 pub loads_what_wraps : LoadsWhatWraps
 loads_what_wraps t p out fields row k bytes-t bytes-p m = (to, from)
   where
-    by_wrapping : UnwrapsTo row.row_key (wrapped_of (key_part_lem p)) out k ↔ WrapsUnder row k p
+    by_wrapping : UnwrapsTo row.row_key (wrapped_of (key_part_of p)) out k ↔ WrapsUnder row k p
     by_wrapping =
-        unwraps_exactly row.row_key (wrapped_of (key_part_lem p)) out k (kek_size t p out row m) (kek_bytes t p out row m bytes-t) m.size
+        unwraps_exactly row.row_key (wrapped_of (key_part_of p)) out k (kek_size t p out row m) (kek_bytes t p out row m bytes-t) m.size
         (wrapped_bytes_of p bytes-p) m.given.key_fits
 
     to : Loads t p out fields k → WrapsUnder row k p
@@ -108,7 +108,7 @@ loads_what_wraps t p out fields row k bytes-t bytes-p m = (to, from)
     from h = record { size = h.size; answers = unwrapped_loads t p out row m fields (0, over k out) (by_wrapping.1 h).answers }
 
 pub one_key_wraps : OneKeyWraps
-one_key_wraps t p out row k k' bytes-t m = one_key row.row_key k k' (wrapped_of (key_part_lem p)) (kek_bytes t p out row m bytes-t)
+one_key_wraps t p out row k k' bytes-t m = one_key row.row_key k k' (wrapped_of (key_part_of p)) (kek_bytes t p out row m bytes-t)
 
 pub nine_says : NineSays
 nine_says t p out fields bytes-t bytes-p nine = (row, m, none)
@@ -129,12 +129,12 @@ pub loads-wrapped : LoadsWrapped
 loads-wrapped t p out fields k given bytes-t bytes-p is = (to, from)
   where
     ByRow : Type 0
-    ByRow = (row : Row) × (kek_row t (key_part_lem p) ≡ some row) × WrapsUnder row k p
+    ByRow = (row : Row) × (kek_row t (key_part_of p) ≡ some row) × WrapsUnder row k p
 
     to : Loads t p out fields k → ByRow
     to h =
         let zero = load_told t p out fields given wrapped_format is k h in
-        let no = part_passed (kek_row t (key_part_lem p)) (algorithm_in p) wrapped_format (key_part_lem p) zero in
+        let no = part_passed (kek_row t (key_part_of p)) (algorithm_in p) wrapped_format (key_part_of p) zero in
         let (row, m) = matched-row t p out given is (no 0) (no 2) in
         (row, m.matched, (loads_what_wraps t p out fields row k bytes-t bytes-p m).0 h)
 
@@ -145,8 +145,8 @@ loads-wrapped t p out fields k given bytes-t bytes-p is = (to, from)
 
 pub no-row_six : NoRowSix
 no-row_six t p out fields given other nothing =
-    let needs = known_needs (format_in p) (known (format_in p) (key_part_lem p) (read_part p given.readable).permitted) other in
-    load_six t p out fields given (format_in p) refl (rw nothing (part_none (algorithm_in p) (format_in p) (key_part_lem p) needs))
+    let needs = known_needs (format_in p) (known (format_in p) (key_part_of p) (read_part p given.readable).permitted) other in
+    load_six t p out fields given (format_in p) refl (rw nothing (part_none (algorithm_in p) (format_in p) (key_part_of p) needs))
 
 -- ---- other rows
 
@@ -155,29 +155,29 @@ load_other-rows t u p out fields ok-t ok-u e = rw (ok-t, ok-u, e)
 
 -- by the row that each format names
 named_alike : (t u p out fields : List ℕ) (f : ℕ) → table_ok t ≡ true → table_ok u ≡ true → format_in p ≡ f
-    → row_named u f (key_part_lem p) ≡ row_named t f (key_part_lem p) → load_answer u p out fields ≡ load_answer t p out fields
+    → row_named u f (key_part_of p) ≡ row_named t f (key_part_of p) → load_answer u p out fields ≡ load_answer t p out fields
 named_alike t u p out fields f ok-t ok-u is same = load_other-rows u t p out fields ok-u ok-t (rw is same)
 
 pub reference_beside_kek : ReferenceBesideKek
 reference_beside_kek t u row p out fields ok-t ok-u more kek is =
-    named_alike t u p out fields reference_format ok-t ok-u is (kek-row_more t u row (key_part_lem p) ok-u more kek)
+    named_alike t u p out fields reference_format ok-t ok-u is (kek-row_more t u row (key_part_of p) ok-u more kek)
 
 pub wrapped_beside_data : WrappedBesideData
 unfolding part_refused
 wrapped_beside_data t u row p out fields ok-t ok-u more other is = go (eqb (page_read_number p) 0) refl
   where
     -- of a page that reading accepts the KEK type is one of the two
-    kek-type : page_read_number p ≡ 0 → is_kek_type (kek_type (key_part_lem p)) ≡ true
-    kek-type e = not-false (is_kek_type (kek_type (key_part_lem p))) (rw is at (read_part p e).permitted)
+    kek-type : page_read_number p ≡ 0 → is_kek_type (kek_type (key_part_of p)) ≡ true
+    kek-type e = not-false (is_kek_type (kek_type (key_part_of p))) (rw is at (read_part p e).permitted)
 
     go : (b : Bool) → eqb (page_read_number p) 0 ≡ b → load_answer u p out fields ≡ load_answer t p out fields
     go true e =
         named_alike t u p out fields wrapped_format ok-t ok-u is
-        (data-row_more t u row (kek_type (key_part_lem p)) (identifier_of (key_part_lem p)) ok-u more other (kek-type (eqb-true (page_read_number p) 0 e)))
+        (data-row_more t u row (kek_type (key_part_of p)) (identifier_of (key_part_of p)) ok-u more other (kek-type (eqb-true (page_read_number p) 0 e)))
     go false e = unread u ok-u ∙ sym (unread t ok-t)
       where
         unread : (v : List ℕ) → table_ok v ≡ true → load_answer v p out fields ≡ ((page_read_number p, out), fields)
-        unread v ok = load_unread (table_ok v) (row_named v (format_in p) (key_part_lem p)) p out fields ok (page_read_number p) refl (eqb-false (page_read_number p) 0 e)
+        unread v ok = load_unread (table_ok v) (row_named v (format_in p) (key_part_of p)) p out fields ok (page_read_number p) refl (eqb-false (page_read_number p) 0 e)
 
 -- ---- the lowest
 

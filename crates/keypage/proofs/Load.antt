@@ -12,7 +12,7 @@ use lib.ListN.{length}
 use Rattle.octets.specs.Lent.{lowest, over}
 use Rattle.keytable.specs.Row.{row_key_size, Row}
 use Rattle.keytable.specs.Table.{table_ok}
-use Rattle.keypage.specs.Page.{algorithm_in, format_in, key_part_lem, fields_of}
+use Rattle.keypage.specs.Page.{algorithm_in, format_in, key_part_of, fields_of}
 use Rattle.keypage.specs.KeyPart.{reference_format, needs_row}
 use Rattle.keypage.specs.Load.{row_named, part_tests, key_loaded, load_number, load_row, load_answer}
 use Rattle.keypage.specs.Laws.{Given, Loads}
@@ -48,13 +48,13 @@ reference_passed row algorithm s e = rw (eq-eqb row.row_use algorithm e)
 -- ---- the whole call, by a format, the row found for it and the key it then gives
 
 abbrev pub row_given : List ℕ → List ℕ → ℕ → Option Row
-row_given t p f = row_named t f (key_part_lem p)
+row_given t p f = row_named t f (key_part_of p)
 
 abbrev pub number_in : List ℕ → List ℕ → ℕ → ℕ
-number_in t p f = part_number (row_given t p f) (algorithm_in p) f (key_part_lem p)
+number_in t p f = part_number (row_given t p f) (algorithm_in p) f (key_part_of p)
 
 abbrev pub key_given : List ℕ → List ℕ → ℕ → List ℕ
-key_given t p f = key_loaded (row_given t p f) f (key_part_lem p)
+key_given t p f = key_loaded (row_given t p f) f (key_part_of p)
 
 module _ (t p out fields : List ℕ) (given : Given t p out) where
   pub load-left : load_number (table_ok t) (row_given t p (format_in p)) p (length out) ≡ number_in t p (format_in p)

@@ -15,7 +15,7 @@ use Rattle.octets.proofs.Lowest.{lower-none}
 use Rattle.keytable.specs.Row.{row_key_size, Row}
 use Rattle.keytable.specs.Table.{table_ok}
 use Rattle.keytable.specs.Calls.{missing, use_in}
-use Rattle.keypage.specs.Page.{algorithm_in, format_in, key_part_lem}
+use Rattle.keypage.specs.Page.{algorithm_in, format_in, key_part_of}
 use Rattle.keypage.specs.KeyPart.{plain_format, reference_format, wrapped_format}
 use Rattle.keypage.specs.Read.{broken, refused, long}
 use Rattle.keypage.specs.Load.{part_tests, load_tests, load_number, load_row, load_answer}
@@ -74,9 +74,9 @@ module _ (t p out fields : List ℕ) (nine : (load_answer t p out fields).0.0 �
   part_nine = sym (load-left t p out fields given) ∙ nine
 
   is : format_in p ≡ wrapped_format
-  is = nine-wrapped (row_given t p (format_in p)) (algorithm_in p) (format_in p) (key_part_lem p) (known (format_in p) (key_part_lem p) (read_part p given.readable).permitted) part_nine
+  is = nine-wrapped (row_given t p (format_in p)) (algorithm_in p) (format_in p) (key_part_of p) (known (format_in p) (key_part_of p) (read_part p given.readable).permitted) part_nine
 
   pub nine_matched : (row : Row) × KekMatched t p out row
   nine_matched =
-      let no = not_before (part_tests (row_given t p wrapped_format) (algorithm_in p) wrapped_format (key_part_lem p)) refl (rw is at part_nine) in
+      let no = not_before (part_tests (row_given t p wrapped_format) (algorithm_in p) wrapped_format (key_part_of p)) refl (rw is at part_nine) in
       matched-row t p out given is (no 0 6 _ refl (omega arith)) (no 2 8 _ refl (omega arith))

@@ -12,8 +12,8 @@ use Rattle.octets.proofs.Tests.{or_left, or_right, every_at}
 use Rattle.descriptors.proofs.Answers.{list_accepted, number_ok}
 use Rattle.descriptors.proofs.Laws.{accepts_exactly}
 use Rattle.keypage.specs.Layout.{code_at, page_code, page_length_at, before_length, key_part_at, page_max}
-use Rattle.keypage.specs.Page.{scope_in, reserved_in, encryption_in, decryption_in, algorithm_in, format_in, key_length_lem}
-use Rattle.keypage.specs.Page.{key_part_lem, list_in, page_strict, page_list_ok, page_list_count, page_tests, page_ok, permitted_tests, fields_ok}
+use Rattle.keypage.specs.Page.{scope_in, reserved_in, encryption_in, decryption_in, algorithm_in, format_in, key_length_of}
+use Rattle.keypage.specs.Page.{key_part_of, list_in, page_strict, page_list_ok, page_list_count, page_tests, page_ok, permitted_tests, fields_ok}
 use Rattle.keypage.specs.KeyPart.{part_broken, part_refused, part_long}
 use Rattle.keypage.specs.Read.{page_read_number, page_read_answer}
 use Rattle.keypage.specs.Laws.{Laid, Readable}
@@ -31,7 +31,7 @@ module _ (p : List ℕ) where
         total = eqb-true (length p) (number_at 2 p page_length_at + before_length) (every_at (page_tests p) 1 ok);
         reserved-bits = eqb-true (reserved_in p) 0 (every_at (page_tests p) 2 ok);
         reserved_bytes = every_at (page_tests p) 3 ok;
-        key_within = leb-true (key_part_at + key_length_lem p) (length p) (every_at (page_tests p) 4 ok);
+        key_within = leb-true (key_part_at + key_length_of p) (length p) (every_at (page_tests p) 4 ok);
         list =
             (accepts_exactly false page_strict (list_in p) (page_list_count (list_in p))).0
             (list_accepted false page_strict (list_in p) (page_list_count (list_in p)) (every_at (page_tests p) 5 ok) refl);
@@ -55,7 +55,7 @@ module _ (p : List ℕ) where
           eq-eqb (length p) (number_at 2 p page_length_at + before_length) h.total,
           eq-eqb (reserved_in p) 0 h.reserved-bits,
           h.reserved_bytes,
-          le-leb (key_part_at + key_length_lem p) (length p) h.key_within,
+          le-leb (key_part_at + key_length_of p) (length p) h.key_within,
           laid_list,
         )
 
@@ -78,15 +78,15 @@ module _ (p : List ℕ) where
   passed_read h = rw (h.whole, h.permitted, h.short)
 
   -- so do none of the KEY part's
-  pub passed_part : ReadPassed p → PartPassed (format_in p) (key_part_lem p)
+  pub passed_part : ReadPassed p → PartPassed (format_in p) (key_part_of p)
   passed_part h =
       record {
-        whole = or_right (not (page_ok p)) (part_broken (format_in p) (key_part_lem p)) h.whole;
-        permitted = or_right (not (fields_ok p)) (part_refused (format_in p) (key_part_lem p)) h.permitted;
-        short = or_right (ltb page_max (length p)) (part_long (format_in p) (key_part_lem p)) h.short;
+        whole = or_right (not (page_ok p)) (part_broken (format_in p) (key_part_of p)) h.whole;
+        permitted = or_right (not (fields_ok p)) (part_refused (format_in p) (key_part_of p)) h.permitted;
+        short = or_right (ltb page_max (length p)) (part_long (format_in p) (key_part_of p)) h.short;
       }
 
-  pub read_part : page_read_number p ≡ 0 → PartPassed (format_in p) (key_part_lem p)
+  pub read_part : page_read_number p ≡ 0 → PartPassed (format_in p) (key_part_of p)
   read_part e = passed_part (read_passed p e)
 
   pub passed-readable : ReadPassed p → Readable p
@@ -94,15 +94,15 @@ module _ (p : List ℕ) where
       record {
         count = page_list_count (list_in p);
         laid =
-            page_laid p (not-false (page_ok p) (or_left (not (page_ok p)) (part_broken (format_in p) (key_part_lem p)) h.whole))
-            (not-false (fields_ok p) (or_left (not (fields_ok p)) (part_refused (format_in p) (key_part_lem p)) h.permitted))
-            (ltb-false page_max (length p) (or_left (ltb page_max (length p)) (part_long (format_in p) (key_part_lem p)) h.short));
-        part = part_laid (format_in p) (key_part_lem p) (passed_part h);
+            page_laid p (not-false (page_ok p) (or_left (not (page_ok p)) (part_broken (format_in p) (key_part_of p)) h.whole))
+            (not-false (fields_ok p) (or_left (not (fields_ok p)) (part_refused (format_in p) (key_part_of p)) h.permitted))
+            (ltb-false page_max (length p) (or_left (ltb page_max (length p)) (part_long (format_in p) (key_part_of p)) h.short));
+        part = part_laid (format_in p) (key_part_of p) (passed_part h);
       }
 
   pub readable_passed : Readable p → ReadPassed p
   readable_passed h =
-      let part = laid_part (format_in p) (key_part_lem p) h.part in
+      let part = laid_part (format_in p) (key_part_of p) h.part in
       record {
         whole = rw (laid_page p h.count h.laid, part.whole);
         permitted = rw (laid-fields p h.count h.laid, part.permitted);

@@ -8,7 +8,7 @@ use borrow.Author.Tests.{not-false}
 use Rattle.std.specs.Prelude.{Some, None, IsSome}
 use Rattle.octets.proofs.Lent.{test_at, none_applies}
 use Rattle.octets.proofs.Tests.{or_left, every_at, or_right, every-not}
-use Rattle.keypage.specs.Page.{format_in, key_part_lem, list_in, page_list_ok, page_tests, page_ok, fields_of, fields_ok}
+use Rattle.keypage.specs.Page.{format_in, key_part_of, list_in, page_list_ok, page_tests, page_ok, fields_of, fields_ok}
 use Rattle.keypage.specs.KeyPart.{part_broken, by_format, part_refused}
 use Rattle.keypage.specs.Read.{broken, refused, long, page_read_tests, page_read_number, page_read_answer}
 use Rattle.keypage.specs.declared.parts.Format.TheVariants.{Plain, Reference, Wrapped}
@@ -34,12 +34,12 @@ read_passed p e = record { whole = no 0; permitted = no 1; short = no 2 }
 pub list_good : (p : List ℕ) → page_read_number p ≡ 0 → page_list_ok (list_in p) ≡ true
 unfolding page_ok
 list_good p e =
-    every_at (page_tests p) 5 (not-false (page_ok p) (or_left (not (page_ok p)) (part_broken (format_in p) (key_part_lem p)) (read_passed p e).whole))
+    every_at (page_tests p) 5 (not-false (page_ok p) (or_left (not (page_ok p)) (part_broken (format_in p) (key_part_of p)) (read_passed p e).whole))
 
 -- its format is known
 pub format_known : (p : List ℕ) → page_read_number p ≡ 0
     → IsSome (by_format (format_in p) (Some Plain) (Some Reference) (Some Wrapped) None)
-format_known p e = go (known (format_in p) (key_part_lem p) (or_right (not (fields_ok p)) (part_refused (format_in p) (key_part_lem p)) (read_passed p e).permitted))
+format_known p e = go (known (format_in p) (key_part_of p) (or_right (not (fields_ok p)) (part_refused (format_in p) (key_part_of p)) (read_passed p e).permitted))
   where
     go : Known (format_in p) → IsSome (by_format (format_in p) (Some Plain) (Some Reference) (Some Wrapped) None)
     go (as_plain f) = rw f refl

@@ -7,7 +7,7 @@ use Prim.Native.Nat.{ℕ}
 use Rattle.octets.proofs.Tests.{every-not}
 use Rattle.keytable.specs.Table.{table_ok}
 use Rattle.descriptors.proofs.StrictLaws.{reserved-not_ok}
-use Rattle.keypage.specs.Page.{format_in, key_part_lem, list_in, page_tests, page_ok}
+use Rattle.keypage.specs.Page.{format_in, key_part_of, list_in, page_tests, page_ok}
 use Rattle.keypage.specs.Read.{page_read_number, page_read_answer}
 use Rattle.keypage.specs.Load.{row_named, load_number, load_row}
 use Rattle.keypage.specs.Laws.{HoldsReserved, reserved_number, ReservedReadsTwo, ReservedLoadsTwo}
@@ -28,6 +28,6 @@ pub reserved_loads_two : ReservedLoadsTwo
 unfolding load_row load_number
 reserved_loads_two t p out fields h = go (table_ok t)
   where
-    go : (ok : Bool) → load_row ok (row_named t (format_in p) (key_part_lem p)) p out fields ≡ ((reserved_number ok, out), fields)
+    go : (ok : Bool) → load_row ok (row_named t (format_in p) (key_part_of p)) p out fields ≡ ((reserved_number ok, out), fields)
     go true = rw (not_laid p h)
     go false = refl

@@ -37,20 +37,20 @@ identifier_at = 4
 abbrev pub kek_type : List ℕ → ℕ
 kek_type s = number_at 2 s kek_type_at
 
-abbrev pub identifier_size_lem : List ℕ → ℕ
-identifier_size_lem s = number_at 2 s identifier_size_at
+abbrev pub identifier_size_of : List ℕ → ℕ
+identifier_size_of s = number_at 2 s identifier_size_at
 
 abbrev pub identifier_of : List ℕ → List ℕ
-identifier_of s = part_of s identifier_at (identifier_size_lem s)
+identifier_of s = part_of s identifier_at (identifier_size_of s)
 
 abbrev pub wrapped_at : List ℕ → ℕ
-wrapped_at s = identifier_at + identifier_size_lem s
+wrapped_at s = identifier_at + identifier_size_of s
 
 abbrev pub wrapped_of : List ℕ → List ℕ
 wrapped_of s = drop (wrapped_at s) s
 
 abbrev pub wrapped_tests : List ℕ → List Bool
-wrapped_tests s = leb identifier_at (length s) ∷ leb 1 (identifier_size_lem s) ∷ leb (wrapped_at s) (length s) ∷ []
+wrapped_tests s = leb identifier_at (length s) ∷ leb 1 (identifier_size_of s) ∷ leb (wrapped_at s) (length s) ∷ []
 
 -- 2: "KEY part of a known format .. identifier length 0"
 unfoldable pub part_broken : ℕ → List ℕ → Bool
@@ -62,7 +62,7 @@ part_refused f s = by_format f false false (not (is_kek_type (kek_type s))) true
 
 -- 4: "a maximum above is passed (names and identifiers too)"
 unfoldable pub part_long : ℕ → List ℕ → Bool
-part_long f s = by_format f false (ltb name_max (length s)) (ltb name_max (identifier_size_lem s)) false
+part_long f s = by_format f false (ltb name_max (length s)) (ltb name_max (identifier_size_of s)) false
 
 -- a reference and a wrapped key are by a row
 abbrev pub needs_row : ℕ → Bool

@@ -17,8 +17,8 @@ use Rattle.descriptors.specs.Parse.{split}
 use Rattle.descriptors.specs.Laws.{Accepted}
 use Rattle.descriptors.specs.StrictLaws.{HasReserved}
 use Rattle.keypage.specs.Layout.{code_at, page_code, page_length_at, before_length, zeros_at, zeros_count, key_part_at, page_max}
-use Rattle.keypage.specs.Page.{scope_in, reserved_in, encryption_in, decryption_in, algorithm_in, format_in, key_length_lem, key_part_lem, list_in, page_strict, fields_of}
-use Rattle.keypage.specs.KeyPart.{plain_format, reference_format, wrapped_format, reference_min, kek_type, identifier_size_lem, identifier_at, identifier_of, wrapped_of}
+use Rattle.keypage.specs.Page.{scope_in, reserved_in, encryption_in, decryption_in, algorithm_in, format_in, key_length_of, key_part_of, list_in, page_strict, fields_of}
+use Rattle.keypage.specs.KeyPart.{plain_format, reference_format, wrapped_format, reference_min, kek_type, identifier_size_of, identifier_at, identifier_of, wrapped_of}
 use Rattle.keypage.specs.Read.{page_read_tests, page_read_number, page_read_answer}
 use Rattle.keypage.specs.Places.{places_answer}
 use Rattle.keypage.specs.Load.{kek_row, row_named, part_tests, load_tests, load_answer}
@@ -31,7 +31,7 @@ pub record Laid (p : List ℕ) (n : ℕ) : Type 0 where
   pub total : length p ≡ number_at 2 p page_length_at + before_length
   pub reserved-bits : reserved_in p ≡ 0
   pub reserved_bytes : zeros (part_of p zeros_at zeros_count) ≡ true
-  pub key_within : key_part_at + key_length_lem p ≤ length p
+  pub key_within : key_part_at + key_length_of p ≤ length p
   pub list : Accepted false page_strict (list_in p) n
   pub scope : scope_in p ≤ 2
   pub encryption : encryption_in p ≤ 2
@@ -44,13 +44,13 @@ pub record Laid (p : List ℕ) (n : ℕ) : Type 0 where
 pub data PartLaid (f : ℕ) (s : List ℕ) : Type 0 where
   plain : f ≡ plain_format → length s ≡ row_key_size → PartLaid f s
   reference : f ≡ reference_format → reference_min ≤ length s → length s ≤ name_max → PartLaid f s
-  wrapped : f ≡ wrapped_format → 1 ≤ kek_type s → kek_type s ≤ 2 → 1 ≤ identifier_size_lem s → identifier_size_lem s ≤ name_max
-      → identifier_at + identifier_size_lem s ≤ length s → PartLaid f s
+  wrapped : f ≡ wrapped_format → 1 ≤ kek_type s → kek_type s ≤ 2 → 1 ≤ identifier_size_of s → identifier_size_of s ≤ name_max
+      → identifier_at + identifier_size_of s ≤ length s → PartLaid f s
 
 pub record Readable (p : List ℕ) : Type 0 where
   pub count : ℕ
   pub laid : Laid p count
-  pub part : PartLaid (format_in p) (key_part_lem p)
+  pub part : PartLaid (format_in p) (key_part_of p)
 
 abbrev pub ReadsExactly : Type 0
 ReadsExactly = (p fields after : List ℕ) → (page_read_answer p fields ≡ (0, after)) ↔ (Readable p × (after ≡ fields_of p))
@@ -73,13 +73,13 @@ ReservedLoadsTwo = (t p out fields : List ℕ) → HoldsReserved p → load_answ
 -- ---- where the parts of a page are: what is stored of an accepted page tells its KEY part and its list, and of format 04h the rest
 
 pub record PlacesTold (p at : List ℕ) : Type 0 where
-  pub key_part : key_part_lem p ≡ part_of p key_part_at (get_or at 0 0 - key_part_at)
+  pub key_part : key_part_of p ≡ part_of p key_part_at (get_or at 0 0 - key_part_at)
   pub list : list_in p ≡ drop (get_or at 0 0) p
 
 pub record WrappedTold (p at : List ℕ) : Type 0 where
-  pub type : kek_type (key_part_lem p) ≡ get_or at 1 0
-  pub identifier : identifier_of (key_part_lem p) ≡ part_of p (get_or at 2 0) (get_or at 3 0 - get_or at 2 0)
-  pub wrapped_key : wrapped_of (key_part_lem p) ≡ part_of p (get_or at 3 0) (get_or at 0 0 - get_or at 3 0)
+  pub type : kek_type (key_part_of p) ≡ get_or at 1 0
+  pub identifier : identifier_of (key_part_of p) ≡ part_of p (get_or at 2 0) (get_or at 3 0 - get_or at 2 0)
+  pub wrapped_key : wrapped_of (key_part_of p) ≡ part_of p (get_or at 3 0) (get_or at 0 0 - get_or at 3 0)
 
 abbrev pub PlacesTell : Type 0
 PlacesTell = (p before at : List ℕ) → places_answer p before ≡ (0, at) → PlacesTold p at
@@ -104,29 +104,29 @@ pub record Loads (t p out fields k : List ℕ) : Type 0 where
 
 -- a 00h page gives its key, whatever the table
 abbrev pub LoadsPlain : Type 0
-LoadsPlain = (t p out fields : List ℕ) → Given t p out → format_in p ≡ plain_format → Loads t p out fields (key_part_lem p)
+LoadsPlain = (t p out fields : List ℕ) → Given t p out → format_in p ≡ plain_format → Loads t p out fields (key_part_of p)
 
 -- a 01h page gives the key of the row of that whole name, whose use is the algorithm index
 abbrev pub LoadsReference : Type 0
 LoadsReference =
     (t p out fields k : List ℕ) → Given t p out → format_in p ≡ reference_format
-    → Loads t p out fields k ↔ ((row : Row) × (data_row t (key_part_lem p) ≡ some row) × (row.row_use ≡ algorithm_in p) × (row.row_key ≡ k))
+    → Loads t p out fields k ↔ ((row : Row) × (data_row t (key_part_of p) ≡ some row) × (row.row_use ≡ algorithm_in p) × (row.row_key ≡ k))
 
 -- k is a key of 32 bytes that wraps to the wrapped bytes of a 04h page, under a row's key
 abbrev pub WrapsUnder : Row → List ℕ → List ℕ → Type 0
-WrapsUnder row k p = WrapsTo row.row_key k (wrapped_of (key_part_lem p))
+WrapsUnder row k p = WrapsTo row.row_key k (wrapped_of (key_part_of p))
 
 -- a 04h page gives k exactly when there is a row of its KEK's type and whole identifier and wrapping k by it gives the 40 bytes
 abbrev pub LoadsWrapped : Type 0
 LoadsWrapped =
     (t p out fields k : List ℕ) → Given t p out → Bytes t → Bytes p → format_in p ≡ wrapped_format
     → Loads t p out fields k
-    ↔ ((row : Row) × (kek_row t (key_part_lem p) ≡ some row) × WrapsUnder row k p)
+    ↔ ((row : Row) × (kek_row t (key_part_of p) ≡ some row) × WrapsUnder row k p)
 
 -- "Where no row answers, the load stops there with 6."
 abbrev pub NoRowSix : Type 0
 NoRowSix =
-    (t p out fields : List ℕ) → Given t p out → (format_in p ≡ plain_format → ⊥) → row_named t (format_in p) (key_part_lem p) ≡ none
+    (t p out fields : List ℕ) → Given t p out → (format_in p ≡ plain_format → ⊥) → row_named t (format_in p) (key_part_of p) ≡ none
     → load_answer t p out fields ≡ ((6, out), fields)
 
 -- ---- what 9 says of a 04h page (document 02, No. 13): "It is stated over wrapping alone and not by running the unwrap."
@@ -135,8 +135,8 @@ NoRowSix =
 pub record KekMatched (t p out : List ℕ) (row : Row) : Type 0 where
   pub given : Given t p out
   pub format : format_in p ≡ wrapped_format
-  pub matched : kek_row t (key_part_lem p) ≡ some row
-  pub size : length (wrapped_of (key_part_lem p)) ≡ wrapped_size
+  pub matched : kek_row t (key_part_of p) ≡ some row
+  pub size : length (wrapped_of (key_part_of p)) ≡ wrapped_size
 
 -- "the load gives a key exactly when some 32-byte key wraps to those bytes under that row": that key
 abbrev pub LoadsWhatWraps : Type 0
@@ -165,7 +165,7 @@ NineSays =
 abbrev pub LoadOtherRows : Type 0
 LoadOtherRows =
     (t u p out fields : List ℕ) → table_ok t ≡ true → table_ok u ≡ true
-    → row_named t (format_in p) (key_part_lem p) ≡ row_named u (format_in p) (key_part_lem p)
+    → row_named t (format_in p) (key_part_of p) ≡ row_named u (format_in p) (key_part_of p)
     → load_answer t p out fields ≡ load_answer u p out fields
 
 -- so the row of a key-encrypting key changes no answer for a reference, were it of the reference's name, nor any other row one for a 04h page

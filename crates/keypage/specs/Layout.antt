@@ -23,8 +23,8 @@ zeros_at = 10
 abbrev pub zeros_count : ℕ
 zeros_count = 8
 
-abbrev pub key_length_at_lem : ℕ
-key_length_at_lem = 18
+abbrev pub key_length_at : ℕ
+key_length_at = 18
 
 abbrev pub key_part_at : ℕ
 key_part_at = 20

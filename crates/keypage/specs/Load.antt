@@ -8,7 +8,7 @@ use Rattle.keytable.specs.Table.{table_ok, row_for, data_row}
 use Rattle.keytable.specs.Calls.{missing, use_in}
 use Rattle.keywrap.specs.Wrap as wrap
 use Rattle.keywrap.specs.Calls.{wrapped_size}
-use Rattle.keypage.specs.Page.{algorithm_in, format_in, key_part_lem, fields_of}
+use Rattle.keypage.specs.Page.{algorithm_in, format_in, key_part_of, fields_of}
 use Rattle.keypage.specs.KeyPart.{by_format, kek_type, identifier_of, wrapped_of, needs_row}
 use Rattle.keypage.specs.Read.{broken, refused, long}
 
@@ -50,7 +50,7 @@ load_tests ok row p room =
     ∷ (3, refused p)
     ∷ (4, long p)
     ∷ (5, ltb room row_key_size)
-    ∷ part_tests row (algorithm_in p) (format_in p) (key_part_lem p)
+    ∷ part_tests row (algorithm_in p) (format_in p) (key_part_of p)
 
 unfoldable pub load_number : Bool → Option Row → List ℕ → ℕ → ℕ
 load_number ok row p room = lowest (load_tests ok row p room)
@@ -58,9 +58,9 @@ load_number ok row p room = lowest (load_tests ok row p room)
 -- by whether the table is accepted and the row that matched; the fields are lent too, and changed by 0 alone
 unfoldable pub load_row : Bool → Option Row → List ℕ → List ℕ → List ℕ → (ℕ × List ℕ) × List ℕ
 load_row ok row p out fields = (
-  answer (load_number ok row p (length out)) (key_loaded row (format_in p) (key_part_lem p)) out,
+  answer (load_number ok row p (length out)) (key_loaded row (format_in p) (key_part_of p)) out,
   kept (load_number ok row p (length out)) (fields_of p) fields,
 )
 
 abbrev pub load_answer : List ℕ → List ℕ → List ℕ → List ℕ → (ℕ × List ℕ) × List ℕ
-load_answer t p out fields = load_row (table_ok t) (row_named t (format_in p) (key_part_lem p)) p out fields
+load_answer t p out fields = load_row (table_ok t) (row_named t (format_in p) (key_part_of p)) p out fields

@@ -5,7 +5,7 @@ use Rattle.octets.specs.BigEndian.{number_at}
 use Rattle.octets.specs.Tests.{every, zeros, part_of}
 use Rattle.descriptors.specs.Descriptor.{strict_by_default}
 use Rattle.descriptors.specs.Tested.{list_ok, count_of}
-use Rattle.keypage.specs.Layout.{code_at, page_code, page_length_at, before_length, zeros_at, zeros_count, key_length_at_lem, key_part_at, bits_in, chosen_bits}
+use Rattle.keypage.specs.Layout.{code_at, page_code, page_length_at, before_length, zeros_at, zeros_count, key_length_at, key_part_at, bits_in, chosen_bits}
 use Rattle.keypage.specs.Layout.{scope_bits, zero_bits, lock_bits, encryption_bits, decryption_bits, algorithm_bits, format_bits}
 
 abbrev pub scope_in : List ℕ → ℕ
@@ -33,15 +33,15 @@ format_in p = bits_in p format_bits
 abbrev pub chosen_in : List ℕ → List ℕ
 chosen_in p = map (bits_in p) chosen_bits
 
-abbrev pub key_length_lem : List ℕ → ℕ
-key_length_lem p = number_at 2 p key_length_at_lem
+abbrev pub key_length_of : List ℕ → ℕ
+key_length_of p = number_at 2 p key_length_at
 
 -- the KEY part, and the descriptor list after it
-abbrev pub key_part_lem : List ℕ → List ℕ
-key_part_lem p = part_of p key_part_at (key_length_lem p)
+abbrev pub key_part_of : List ℕ → List ℕ
+key_part_of p = part_of p key_part_at (key_length_of p)
 
 abbrev pub list_at : List ℕ → ℕ
-list_at p = key_part_at + key_length_lem p
+list_at p = key_part_at + key_length_of p
 
 abbrev pub list_in : List ℕ → List ℕ
 list_in p = drop (list_at p) p
@@ -89,4 +89,4 @@ fields_ok p = every (permitted_tests p)
 
 -- the fields that a load answers, in the order of the C interface; the last is the count of the page's unreserved descriptors
 unfoldable pub fields_of : List ℕ → List ℕ
-fields_of p = chosen_in p ++ key_length_lem p ∷ page_list_count (list_in p) ∷ []
+fields_of p = chosen_in p ++ key_length_of p ∷ page_list_count (list_in p) ∷ []

@@ -3,7 +3,7 @@
 use Rattle.std.specs.Prelude.{ℕ, ◌+◌, List, [], ◌∷◌}
 use Rattle.octets.specs.Lent.{kept}
 use Rattle.keypage.specs.Layout.{key_part_at}
-use Rattle.keypage.specs.Page.{format_in, key_part_lem, list_at}
+use Rattle.keypage.specs.Page.{format_in, key_part_of, list_at}
 use Rattle.keypage.specs.KeyPart.{by_format, kek_type, identifier_at, wrapped_at}
 use Rattle.keypage.specs.Read.{page_read_number}
 
@@ -20,7 +20,7 @@ part_places f s = by_format f not_wrapped not_wrapped (wrapped_places s) not_wra
 
 -- where the list begins, and these
 unfoldable pub places_of : List ℕ → List ℕ
-places_of p = list_at p ∷ part_places (format_in p) (key_part_lem p)
+places_of p = list_at p ∷ part_places (format_in p) (key_part_of p)
 
 -- the places are lent, and changed by 0 alone
 unfoldable pub places_answer : List ℕ → List ℕ → ℕ × List ℕ

@@ -3,17 +3,17 @@
 use Rattle.std.specs.Prelude.{ℕ, Bool, not, ◌||◌, List, [], ◌∷◌, length, ltb}
 use Rattle.octets.specs.Lent.{Tests, lowest, kept}
 use Rattle.keypage.specs.Layout.{page_max}
-use Rattle.keypage.specs.Page.{format_in, key_part_lem, page_ok, fields_ok, fields_of}
+use Rattle.keypage.specs.Page.{format_in, key_part_of, page_ok, fields_ok, fields_of}
 use Rattle.keypage.specs.KeyPart.{part_broken, part_refused, part_long}
 
 abbrev pub broken : List ℕ → Bool
-broken p = not (page_ok p) || part_broken (format_in p) (key_part_lem p)
+broken p = not (page_ok p) || part_broken (format_in p) (key_part_of p)
 
 abbrev pub refused : List ℕ → Bool
-refused p = not (fields_ok p) || part_refused (format_in p) (key_part_lem p)
+refused p = not (fields_ok p) || part_refused (format_in p) (key_part_of p)
 
 abbrev pub long : List ℕ → Bool
-long p = ltb page_max (length p) || part_long (format_in p) (key_part_lem p)
+long p = ltb page_max (length p) || part_long (format_in p) (key_part_of p)
 
 abbrev pub page_read_tests : List ℕ → Tests
 page_read_tests p = (2, broken p) ∷ (3, refused p) ∷ (4, long p) ∷ []

@@ -4,7 +4,7 @@ ghost use Rattle.std.proofs.Math.Option.{some, none};
 ghost use Rattle.refusals.specs.Numbers.{number_of, outcome_number};
 ghost use Rattle.keytable.specs.Row.{row_key_size};
 ghost use Rattle.keytable.specs.Table.{table_ok, row_for, data_row, row_at};
-ghost use Rattle.keypage.specs.Page.{algorithm_in, format_in, key_part_lem};
+ghost use Rattle.keypage.specs.Page.{algorithm_in, format_in, key_part_of};
 ghost use Rattle.keypage.specs.KeyPart.{reference_format, wrapped_format};
 ghost use Rattle.keypage.specs.Load.{kek_row, row_named, part_answer, load_answer};
 
@@ -75,7 +75,7 @@ fn load_wrapped(table: Table, algorithm: usize, s: &[u8], out: &mut [u8]) -> Res
 fn load_key(table: Table, page: Page, out: &mut [u8]) -> Result<(), Refusal>
     requires { row_key_size ≤ length out.old }
     ensures { let p = page.entry.bytes.now in
-        part_answer (row_named table.entry.bytes.now (format_in p) (key_part_lem p)) (algorithm_in p) (format_in p) (key_part_lem p) out.old ≡ (outcome_number result, out.new) }
+        part_answer (row_named table.entry.bytes.now (format_in p) (key_part_of p)) (algorithm_in p) (format_in p) (key_part_of p) out.old ≡ (outcome_number result, out.new) }
 {
     let s = page.key_part();
     match page.format() {

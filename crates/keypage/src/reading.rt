@@ -4,7 +4,7 @@ ghost use Rattle.std.specs.Result.{is_ok};
 ghost use Rattle.octets.specs.Tests.{every};
 ghost use Rattle.refusals.specs.Numbers.{outcome_number};
 ghost use Rattle.keypage.specs.Page as laid;
-ghost use Rattle.keypage.specs.Page.{algorithm_in, format_in, key_part_lem, list_at, list_in, page_list_ok, page_list_count, page_ok, fields_ok, fields_of};
+ghost use Rattle.keypage.specs.Page.{algorithm_in, format_in, key_part_of, list_at, list_in, page_list_ok, page_list_count, page_ok, fields_ok, fields_of};
 ghost use Rattle.keypage.specs.KeyPart.{by_format};
 ghost use Rattle.keypage.specs.Read.{page_read_number, page_read_answer};
 
@@ -49,7 +49,7 @@ pub fn list_ok(list: &[u8]) -> bool
 
 // The KEY part, from byte 20, and the list after it.
 pub fn key_part(p: &[u8]) -> &[u8]
-    ensures { result.now ≡ key_part_lem p.now }
+    ensures { result.now ≡ key_part_of p.now }
 {
     part(p, KEY_AT, read16(p, KEY_LENGTH_AT))
 }
@@ -154,7 +154,7 @@ impl<'a> Page<'a> {
     }
 
     pub(crate) fn key_part(self) -> &'a [u8]
-        ensures { result.now ≡ key_part_lem self.entry.bytes.now }
+        ensures { result.now ≡ key_part_of self.entry.bytes.now }
     {
         key_part(self.bytes)
     }

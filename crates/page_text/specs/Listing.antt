@@ -6,7 +6,7 @@ use Rattle.octets.specs.Lent.{when, over}
 use Rattle.wording.specs.Ascii.{ascii}
 use Rattle.wording.specs.Lines.{line, refused_line, together}
 use Rattle.keypage.specs.Layout.{page_max}
-use Rattle.keypage.specs.Page.{scope_in, lock_in, encryption_in, decryption_in, algorithm_in, format_in, key_length_lem, list_in, page_list_count}
+use Rattle.keypage.specs.Page.{scope_in, lock_in, encryption_in, decryption_in, algorithm_in, format_in, key_length_of, list_in, page_list_count}
 use Rattle.keypage.specs.Read.{page_read_number}
 
 abbrev pub lines_of : (scope lock encrypt decrypt algorithm format length descriptors : ℕ) → List ℕ
@@ -29,7 +29,7 @@ lines_said (l ∷ ls) = line l.0.now l.1 ++ lines_said ls
 
 unfoldable pub field_lines : List ℕ → List ℕ
 field_lines p =
-    lines_of (scope_in p) (lock_in p) (encryption_in p) (decryption_in p) (algorithm_in p) (format_in p) (key_length_lem p) (page_list_count (list_in p))
+    lines_of (scope_in p) (lock_in p) (encryption_in p) (decryption_in p) (algorithm_in p) (format_in p) (key_length_of p) (page_list_count (list_in p))
 
 -- the same, of a page's fields in the order in which it is read
 abbrev pub lines_in : List ℕ → List ℕ

@@ -19,7 +19,7 @@ use Rattle.octets.proofs.Tests.{all_at, length_part, part_next}
 use Rattle.octets.proofs.Values.{cons_equal, values_part}
 use Rattle.descriptors.proofs.StrictLaws.{strict-shows-whole}
 use Rattle.keypage.specs.Layout.{page_length_at, before_length, zeros_at, zeros_count, key_part_at}
-use Rattle.keypage.specs.Page.{chosen_in, key_length_lem, key_part_lem, list_at, list_in}
+use Rattle.keypage.specs.Page.{chosen_in, key_length_of, key_part_of, list_at, list_in}
 use Rattle.keypage.specs.Laws.{Laid}
 use Rattle.keypage.proofs.ReadNumbers.{read_passed, list_good}
 use Rattle.keypage.proofs.Page.{passed-readable}
@@ -75,7 +75,7 @@ module _ (p : List ℕ) (n : ℕ) (bytes : Bytes p) (h : Laid p n) where
   small : (i : ℕ) → at i < 256
   small = bytes.byte
 
-  within : key_part_at + key_length_lem p ≤ length p
+  within : key_part_at + key_length_of p ≤ length p
   within = h.key_within
 
   -- a word's two bytes, by the number that they make
@@ -95,7 +95,7 @@ module _ (p : List ℕ) (n : ℕ) (bytes : Bytes p) (h : Laid p n) where
       sym (get_or-take zeros_count (drop zeros_at p) k 0 below ∙ get_or-drop zeros_at p k 0)
       ∙ eqb-true (get_or (part_of p zeros_at zeros_count) k 0) 0 (all_at (λ (b : ℕ). eqb b 0) (part_of p zeros_at zeros_count) k 0 h.reserved_bytes (omega (arith, size, below)))
 
-  pub head-again : head_list (chosen_in p) (key_length_lem p) (length p) ≡ take key_part_at p
+  pub head-again : head_list (chosen_in p) (key_length_of p) (length p) ≡ take key_part_at p
   head-again =
       cons_equal (sym (upper 0 16 h.code))
       (cons_equal (sym (lower 0 16 h.code))
@@ -115,17 +115,17 @@ module _ (p : List ℕ) (n : ℕ) (bytes : Bytes p) (h : Laid p n) where
       (cons_equal (sym (zero_at 5 (lit< tt)))
       (cons_equal (sym (zero_at 6 (lit< tt)))
       (cons_equal (sym (zero_at 7 (lit< tt)))
-      (cons_equal (sym (upper 18 (key_length_lem p) refl))
-      (cons_equal (sym (lower 18 (key_length_lem p) refl)) refl)))))))))))))))))))
+      (cons_equal (sym (upper 18 (key_length_of p) refl))
+      (cons_equal (sym (lower 18 (key_length_of p) refl)) refl)))))))))))))))))))
       ∙ values_part p 0 0 key_part_at (omega (arith, within))
 
-  pub laid-again : page_of (chosen_in p) (key_part_lem p) (list_in p) ≡ p
+  pub laid-again : page_of (chosen_in p) (key_part_of p) (list_in p) ≡ p
   unfolding page_of
   laid-again =
-      let part-size : length (key_part_lem p) ≡ key_length_lem p = length_part p key_part_at (key_length_lem p) within in
-      let size : page_size (length (key_part_lem p)) (length (list_in p)) ≡ length p = omega (arith, part-size, length-drop (list_at p) p, within) in
-      ap₂ (λ (k m : ℕ). head_of (chosen_in p) k m ++ (key_part_lem p ++ list_in p)) part-size size
-      ∙ ap₂ (λ (a b : List ℕ). a ++ b) (head-list (chosen_in p) (key_length_lem p) (length p) ∙ head-again) (part_next p key_part_at (key_length_lem p))
+      let part-size : length (key_part_of p) ≡ key_length_of p = length_part p key_part_at (key_length_of p) within in
+      let size : page_size (length (key_part_of p)) (length (list_in p)) ≡ length p = omega (arith, part-size, length-drop (list_at p) p, within) in
+      ap₂ (λ (k m : ℕ). head_of (chosen_in p) k m ++ (key_part_of p ++ list_in p)) part-size size
+      ∙ ap₂ (λ (a b : List ℕ). a ++ b) (head-list (chosen_in p) (key_length_of p) (length p) ∙ head-again) (part_next p key_part_at (key_length_of p))
       ∙ take-append-drop key_part_at p
 
 pub page-again : PageAgain
@@ -136,15 +136,15 @@ page-again p bytes accepted =
 pub writes_again : WritesAgain
 writes_again p out n bytes accepted forty roomy =
     let same = page-again p bytes accepted in
-    let total : length (page_of (chosen_in p) (key_part_lem p) (list_in p)) ≡ length p = ap length same in
-    let sized = length_page (chosen_in p) (key_part_lem p) (list_in p) in
+    let total : length (page_of (chosen_in p) (key_part_of p) (list_in p)) ≡ length p = ap length same in
+    let sized = length_page (chosen_in p) (key_part_of p) (list_in p) in
     let zero =
-    (writes_exactly (chosen_in p) (key_part_lem p) (list_in p) (length out)).1 (record {
+    (writes_exactly (chosen_in p) (key_part_of p) (list_in p) (length out)).1 (record {
       fit = read_fit p;
       readable = rw same (passed-readable p (read_passed p accepted));
       roomy = omega (arith, total, roomy);
       carried = forty;
     }) in
-    ap (λ (l : List ℕ). write_answer (chosen_in p) (key_part_lem p) l out n) (strict-shows-whole false (list_in p) (list_good p accepted))
-    ∙ write_done (chosen_in p) (key_part_lem p) (list_in p) out n zero
+    ap (λ (l : List ℕ). write_answer (chosen_in p) (key_part_of p) l out n) (strict-shows-whole false (list_in p) (list_good p accepted))
+    ∙ write_done (chosen_in p) (key_part_of p) (list_in p) out n zero
     ∙ ap₂ (λ (q : List ℕ) (m : ℕ). ((0, over q out), m)) same (sym sized ∙ total)

@@ -16,7 +16,7 @@ use Rattle.keytable.specs.Table.{table_ok, row_for}
 use Rattle.keytable.proofs.RowFound.{row_key_bytes}
 use Rattle.keywrap.specs.Wrap as wrap
 use Rattle.keywrap.proofs.Laws.{wrapped_bytes}
-use Rattle.keypage.specs.Page.{key_part_lem}
+use Rattle.keypage.specs.Page.{key_part_of}
 use Rattle.keypage.specs.KeyPart.{wrapped_of}
 use Rattle.keypage.specs.Load.{kek_row}
 use Rattle.keypage.specs.Laws.{Given}
@@ -98,8 +98,8 @@ wrapped_loads t v type identifier key list out after room fields n m bytes-t byt
     let bytes-p = page_bytes v s list fit (part_bytes type identifier w bytes-i (wrapped_bytes row.row_key key kek_bytes bytes-k)) bytes-l in
     let back = part_made v type identifier key list wrappable row in
     let part_is = part_back v s list fit small in
-    let matched : kek_row t (key_part_lem p) ≡ some row = ap (kek_row t) part_is ∙ ap₂ (row_for t) back.type_back back.identifier_back ∙ has in
-    let wraps : wrap.wrapped row.row_key key ≡ wrapped_of (key_part_lem p) = sym (ap wrapped_of part_is ∙ back.wrapped_back) in
+    let matched : kek_row t (key_part_of p) ≡ some row = ap (kek_row t) part_is ∙ ap₂ (row_for t) back.type_back back.identifier_back ∙ has in
+    let wraps : wrap.wrapped row.row_key key ≡ wrapped_of (key_part_of p) = sym (ap wrapped_of part_is ∙ back.wrapped_back) in
     rw (front_is v s list out after n m writes)
     ((loads-wrapped t p room fields key given bytes-t bytes-p (format_back v s list fit small ∙ wrappable.format)).1
     (row, matched, record { size = wrappable.key_size; bytes = bytes-k; wraps = wraps }))

@@ -9,7 +9,7 @@ use lib.Seq.{take_at, drop_at, drop-drop}
 use Rattle.octets.proofs.BigEndian.{number-be}
 use Rattle.keytable.specs.Row.{name_max}
 use Rattle.keywrap.specs.Calls.{wrapped_size}
-use Rattle.keypage.specs.KeyPart.{wrapped_format, kek_type, identifier_size_lem, identifier_at, identifier_of, wrapped_of}
+use Rattle.keypage.specs.KeyPart.{wrapped_format, kek_type, identifier_size_of, identifier_at, identifier_of, wrapped_of}
 use Rattle.keypage.specs.Laws.{wrapped}
 use Rattle.keypage.proofs.KeyPart.{PartPassed, laid_part}
 use Rattle.page_writer.specs.Written.{wrapped_part}
@@ -25,7 +25,7 @@ module _ (type : ℕ) (identifier w : List ℕ) where
   type_read small = number-be 2 type (omega (arith, small))
 
   module _ (short : length identifier ≤ 0xFFFF) where
-    size_read : identifier_size_lem s ≡ length identifier
+    size_read : identifier_size_of s ≡ length identifier
     unfolding wrapped_part
     size_read = number-be 2 (length identifier) (omega (arith, short))
 

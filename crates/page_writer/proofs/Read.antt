@@ -12,7 +12,7 @@ use Rattle.octets.specs.BigEndian.{number_at}
 use Rattle.octets.specs.Lent.{lowest}
 use Rattle.octets.proofs.Values.{values_list}
 use Rattle.keypage.specs.Layout.{code_at, page_code, page_length_at, before_length, page_max}
-use Rattle.keypage.specs.Page.{reserved_in, format_in, chosen_in, key_part_lem, list_at, list_in, page_list_ok, page_list_count, page_ok, fields_ok, fields_of}
+use Rattle.keypage.specs.Page.{reserved_in, format_in, chosen_in, key_part_of, list_at, list_in, page_list_ok, page_list_count, page_ok, fields_ok, fields_of}
 use Rattle.keypage.specs.KeyPart.{part_broken, part_refused, part_long}
 use Rattle.keypage.specs.Read.{broken, refused, long, page_read_number}
 use Rattle.page_writer.specs.Written.{page_size, page_of}
@@ -38,7 +38,7 @@ module _ (v s l : List ℕ) (ok : fields_fit v ≡ true) (short : page_size (len
   pub format_back : format_in p ≡ format_given v
   format_back = rw is (format_read v s l ok)
 
-  pub part_back : key_part_lem p ≡ s
+  pub part_back : key_part_of p ≡ s
   part_back = rw is (part_read v s l short)
 
   pub list_back : list_in p ≡ l
@@ -67,7 +67,7 @@ module _ (v s l : List ℕ) (ok : fields_fit v ≡ true) (short : page_size (len
   permitted_read = rw (scope_read v s l ok, encryption_read v s l ok, decryption_read v s l ok, algorithm_read v s l ok)
 
   -- a test of the KEY part, by its format
-  of_part : (test : ℕ → List ℕ → Bool) → test (format_in p) (key_part_lem p) ≡ test (format_given v) s
+  of_part : (test : ℕ → List ℕ → Bool) → test (format_in p) (key_part_of p) ≡ test (format_given v) s
   of_part test = ap₂ test format_back part_back
 
   broken_is : broken p ≡ write_broken v s l

@@ -11,7 +11,7 @@ use lib.Seq.{take_at, drop_at, drop-drop}
 use Rattle.octets.specs.BigEndian.{number_at}
 use Rattle.octets.specs.Tests.{zeros, part_of}
 use Rattle.octets.proofs.BigEndian.{number-be}
-use Rattle.keypage.specs.Layout.{code_at, page_code, page_length_at, before_length, zeros_at, zeros_count, key_length_at_lem, key_part_at, bits_in, chosen_bits}
+use Rattle.keypage.specs.Layout.{code_at, page_code, page_length_at, before_length, zeros_at, zeros_count, key_length_at, key_part_at, bits_in, chosen_bits}
 use Rattle.keypage.specs.Layout.{scope_bits, zero_bits, lock_bits, ceem_bits, rdmc_bits, sdk_bits, ckod_bits, ckorp_bits, ckorl_bits, encryption_bits, decryption_bits, algorithm_bits, format_bits}
 use Rattle.page_writer.specs.Written.{page_size, page_of}
 use Rattle.page_writer.specs.Write.{fit_tests, fields_fit}
@@ -41,13 +41,13 @@ module _ (v s l : List ℕ) where
     pub length_read : number_at 2 q page_length_at ≡ page_size (length s) (length l) - before_length
     length_read = number-be 2 (page_size (length s) (length l) - before_length) (omega (arith, short))
 
-    pub key-length_read : number_at 2 q key_length_at_lem ≡ length s
+    pub key-length_read : number_at 2 q key_length_at ≡ length s
     key-length_read = number-be 2 (length s) (omega (arith, short))
 
-    pub part_read : part_of q key_part_at (number_at 2 q key_length_at_lem) ≡ s
+    pub part_read : part_of q key_part_at (number_at 2 q key_length_at) ≡ s
     part_read = ap (λ (n : ℕ). take n (s ++ l)) key-length_read ∙ take_at s l (length s) refl
 
-    pub list_read : drop (key_part_at + number_at 2 q key_length_at_lem) q ≡ l
+    pub list_read : drop (key_part_at + number_at 2 q key_length_at) q ≡ l
     list_read = ap (λ (n : ℕ). drop (key_part_at + n) q) key-length_read ∙ sym (drop-drop (length s) key_part_at q) ∙ drop_at s l (length s) refl
 
   -- the fields, where they have room in their bits

@@ -12,7 +12,7 @@ use Rattle.keytable.specs.Table.{table_ok, row_for}
 use Rattle.keywrap.specs.Calls.{key_size_lem, wrapped_size}
 use Rattle.descriptors.specs.Steps.{cursor_at_start, shown_by}
 use Rattle.keypage.specs.Layout.{before_length, page_max, chosen_bits}
-use Rattle.keypage.specs.Page.{format_in, chosen_in, key_part_lem, list_in, page_strict, page_list_count}
+use Rattle.keypage.specs.Page.{format_in, chosen_in, key_part_of, list_in, page_strict, page_list_count}
 use Rattle.keypage.specs.KeyPart.{plain_format, wrapped_format, kek_type, identifier_of, wrapped_of}
 use Rattle.keypage.specs.Read.{page_read_number, page_read_answer}
 use Rattle.keypage.specs.Laws.{Readable, Loads}
@@ -64,7 +64,7 @@ PageLength = (v part list : List ℕ) → length (page_of v part list) ≡ page_
 -- a page that was written of v, a KEY part and a list
 pub record GivesBack (v part list p : List ℕ) : Type 0 where
   pub reads : (fields : List ℕ) → page_read_answer p fields ≡ (0, v ++ length part ∷ page_list_count list ∷ [])
-  pub part_back : key_part_lem p ≡ part
+  pub part_back : key_part_of p ≡ part
   pub list_back : list_in p ≡ list
 
 -- m bytes of an output are what either call wrote
@@ -111,12 +111,12 @@ shown_in s = flatten (shown_by (page_list_count s) s (cursor_at_start false page
 
 abbrev pub WritesAgain : Type 0
 WritesAgain =
-    (p out : List ℕ) (n : ℕ) → Bytes p → page_read_number p ≡ 0 → (format_in p ≡ wrapped_format → length (wrapped_of (key_part_lem p)) ≡ wrapped_size) → length p ≤ length out
-    → write_answer (chosen_in p) (key_part_lem p) (shown_in (list_in p)) out n ≡ ((0, over p out), length p)
+    (p out : List ℕ) (n : ℕ) → Bytes p → page_read_number p ≡ 0 → (format_in p ≡ wrapped_format → length (wrapped_of (key_part_of p)) ≡ wrapped_size) → length p ≤ length out
+    → write_answer (chosen_in p) (key_part_of p) (shown_in (list_in p)) out n ≡ ((0, over p out), length p)
 
 -- the page of any bytes that keep to the layout is that of its own fields, KEY part and list
 abbrev pub PageAgain : Type 0
-PageAgain = (p : List ℕ) → Bytes p → page_read_number p ≡ 0 → page_of (chosen_in p) (key_part_lem p) (list_in p) ≡ p
+PageAgain = (p : List ℕ) → Bytes p → page_read_number p ≡ 0 → page_of (chosen_in p) (key_part_of p) (list_in p) ≡ p
 
 -- ---- wrapping
 

@@ -5,7 +5,7 @@ use Rattle.std.specs.Prelude.{ℕ, suc, ◌+◌, ◌-◌, ◌*◌, List, [], ◌
 use Rattle.octets.specs.BigEndian.{be}
 use Rattle.keytable.specs.Row.{name_max}
 use Rattle.keywrap.specs.Calls.{wrapped_size}
-use Rattle.keypage.specs.Layout.{code_at, page_code, page_length_at, before_length, key_length_at_lem, key_part_at, Bits, weight, chosen_bits}
+use Rattle.keypage.specs.Layout.{code_at, page_code, page_length_at, before_length, key_length_at, key_part_at, Bits, weight, chosen_bits}
 use Rattle.keypage.specs.KeyPart.{kek_type_at, identifier_size_at, identifier_at}
 
 -- n in two bytes at place i
@@ -20,7 +20,7 @@ with_bits (b ∷ bs) v i s = with_bits bs v (suc i) (set s b.in_byte (get_or s b
 -- what a page of so many bytes, with a KEY part of so many, has before it
 unfoldable pub head_of : List ℕ → ℕ → ℕ → List ℕ
 head_of v part total =
-    with_word code_at page_code (with_word page_length_at (total - before_length) (with_word key_length_at_lem part (with_bits chosen_bits v 0 (replicate key_part_at 0))))
+    with_word code_at page_code (with_word page_length_at (total - before_length) (with_word key_length_at part (with_bits chosen_bits v 0 (replicate key_part_at 0))))
 
 abbrev pub page_size : ℕ → ℕ → ℕ
 page_size part list = key_part_at + part + list
