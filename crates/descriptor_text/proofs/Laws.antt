@@ -10,7 +10,11 @@ use lib.ListN.{length, replicate, length-replicate}
 use borrow.Author.Tests.{eqb-true}
 use Rattle.octets.specs.Lent.{when, kept}
 use Rattle.octets.proofs.Lent.{length_over}
-use Rattle.octets.proofs.Unique.{unique-by}
+use Rattle.std.specs.Prelude.{Result, Ok, Err}
+use Rattle.refusals.specs.declared.Refusal.{Refusal}
+use Rattle.refusals.proofs.Laws.{number_unique, not_zero}
+use Rattle.wording.specs.declared.text.Text.{Text}
+use Rattle.wording.proofs.Told.{text_told}
 use Rattle.wording.specs.Decimal.{digits_within, decimal}
 use Rattle.wording.specs.Hex.{digit_of, digits_of, digits_shown}
 use Rattle.descriptors.specs.Descriptor.{size_said, size_of}
@@ -22,9 +26,8 @@ use Rattle.keypage.specs.Page.{list_in}
 use Rattle.keypage.specs.Read.{page_read_number}
 use Rattle.keypage.proofs.Reserved.{reserved-number}
 use Rattle.descriptor_text.specs.Lines.{descriptor_line, descriptor_lines, list_text}
-use Rattle.descriptor_text.specs.Described.{described_room, described_as, label_described, page_described}
-use Rattle.descriptor_text.specs.Laws.{described_says, DescribedFits, ExampleText, EmptyText, ReservedDescribed, LabelFits, PageFits, LabelDescribedUnique, PageDescribedUnique}
-use Rattle.descriptor_text.specs.declared.Described.{Described}
+use Rattle.descriptor_text.specs.Described.{described_room, described_as, described_says, label_described, page_described}
+use Rattle.descriptor_text.specs.Laws.{DescribedFits, ExampleText, EmptyText, ReservedDescribed, LabelFits, PageFits, LabelDescribedUnique, PageDescribedUnique}
 use Rattle.descriptor_text.proofs.Room.{text-length}
 use Rattle.descriptor_text.proofs.Texts.{label_list_ok, page-list-ok, page-refused}
 
@@ -43,7 +46,7 @@ reserved_described p h = page-refused p 2 (sym (reserved-number p h)) (λ z. ome
 
 -- ---- room
 
-described_fits : (n : ℕ) (text : List ℕ) (d : Described) → (n ≡ 0 → length text ≤ described_room) → described_as n text ≡ described_says d → DescribedFits d
+described_fits : (n : ℕ) (text : List ℕ) (d : Result (Text described_room) Refusal) → (n ≡ 0 → length text ≤ described_room) → described_as n text ≡ described_says d → DescribedFits d
 described_fits n text d short e = record {
   room =
       sym (ap (λ (a : ℕ × ℕ × List ℕ). length a.2) e)
@@ -66,11 +69,14 @@ page_fits p d e = described_fits (page_read_number p) (list_text false (list_in 
 
 -- ---- one text
 
-abbrev back : ℕ × ℕ × List ℕ → Described
-back a = record { number = a.0; size = a.1; bytes = a.2 }
+described_same : (x y : Result (Text described_room) Refusal) → described_says x ≡ described_says y → x ≡ y
+described_same (Ok t) (Ok u) e = ap Ok (text_told t u (ap (λ (a : ℕ × ℕ × List ℕ). (a.1, a.2)) e))
+described_same (Ok t) (Err f) e = absurd (not_zero f (ap (λ (a : ℕ × ℕ × List ℕ). a.0) e))
+described_same (Err d) (Ok u) e = absurd (not_zero d (sym (ap (λ (a : ℕ × ℕ × List ℕ). a.0) e)))
+described_same (Err d) (Err f) e = ap Err (number_unique d f (ap (λ (a : ℕ × ℕ × List ℕ). a.0) e))
 
 pub label_described_unique : LabelDescribedUnique
-label_described_unique s = unique-by described_says back (λ d. refl) (label_described s)
+label_described_unique s x y p q = described_same x y (p ∙ sym q)
 
 pub page_described_unique : PageDescribedUnique
-page_described_unique p = unique-by described_says back (λ d. refl) (page_described p)
+page_described_unique p x y e f = described_same x y (e ∙ sym f)

@@ -1,45 +1,42 @@
--- Texts that are written where they fit, one after the other.
+-- Lines that are added one after the other to what a writer has written.
 -- Assumes nothing.
-use mathlib.Core.Path.{◌≡◌, ◌∙◌}
-use mathlib.Core.Bool.{true}
-use mathlib.Core.List.{List, [], ◌∷◌}
-use Prim.Native.Nat.{ℕ, zero, suc, ◌-◌, ◌≤◌, ◌<◌}
-use native.Mathlib.Omega.{arith}
-use lib.ListN.{length}
-use Rattle.octets.specs.Tests.{part_of}
-use Rattle.octets.proofs.Tests.{part-rest}
-use Rattle.wording.specs.Hex.{digits_of, digits_shown}
-use Rattle.wording.specs.Lines.{space, newline}
-use Rattle.wording.specs.Writing.{put_at, WroteIfFits}
-use Rattle.wording.proofs.Wrote.{done, puts, puts_wrote, nothing_wrote, both_wrote}
-use Rattle.descriptors.specs.declared.cursor.Cursor.{Cursor}
+use mathlib.Core.Path.{◌≡◌, sym, ◌∙◌}
+use mathlib.Core.List.{List, [], ◌∷◌, ◌++◌, append_assoc, append-nil}
+use Rattle.std.specs.Prelude.{Ok, Err}
+use Rattle.refusals.specs.declared.Refusal.{Refusal}
+use Rattle.wording.specs.Writer.{Adds}
+use Rattle.wording.specs.declared.writing.Writer.{Writer}
+use Rattle.wording.proofs.Puts.{adds_then, adds_stop}
+use Prim.Native.Nat.{ℕ}
 use Rattle.descriptor_text.specs.Lines.{descriptor_line, descriptor_lines}
-use Rattle.descriptors.specs.Steps.{shown_by}
-use Rattle.descriptor_text.specs.Shown.{StepWrote}
 
--- ---- the pieces of a line
+-- what is written so far, and the lines of the descriptors that are left, are all of the text
+pub record Writing (all : List ℕ) (before now : Writer) (us : List (List ℕ)) : Type 0 where
+  pub text : List ℕ
+  pub adds : Adds text before now (Ok tt)
+  pub whole : text ++ descriptor_lines us ≡ all
 
-pub line_wrote : (d t l s : List ℕ) {at a b c e f r : ℕ} {before r₁ r₂ r₃ r₄ r₅ final : List ℕ} → t ≡ part_of d 0 1 → l ≡ part_of d 2 2 → s ≡ part_of d 4 (length d)
-    → put_at at (digits_of true t) before ≡ (a, r₁) → put_at a (space ∷ []) r₁ ≡ (b, r₂) → put_at b (digits_of true l) r₂ ≡ (c, r₃) → put_at c (space ∷ []) r₃ ≡ (e, r₄)
-    → put_at e (digits_shown true s) r₄ ≡ (f, r₅) → put_at f (newline ∷ []) r₅ ≡ (r, final) → WroteIfFits at (descriptor_line d) before final r
-unfolding descriptor_line
-line_wrote d t l s is-t is-l is-s p₁ p₂ p₃ p₄ p₅ p₆ = record {
-  wrote =
-      puts_wrote
-      (puts (rw is-t at p₁) (puts p₂ (puts (rw is-l at p₃) (puts p₄ (puts (rw (is-s ∙ part-rest d 4) at p₅) (puts p₆ done))))));
-}
-
--- ---- the lines of the steps that are left
-
-pub lines_turn : (n : ℕ) (s : List ℕ) (c next : Cursor) {at m e : ℕ} {room between final : List ℕ} → 0 < n → StepWrote s c at room between next m
-    → WroteIfFits m (descriptor_lines (shown_by (n - 1) s next)) between final e
-    → WroteIfFits at (descriptor_lines (shown_by n s c)) room final e
+line_next : (text d : List ℕ) (us : List (List ℕ)) → text ++ descriptor_lines (d ∷ us) ≡ (text ++ descriptor_line d) ++ descriptor_lines us
 unfolding descriptor_lines
-lines_turn zero s c next h step more = absurd (omega (arith, h))
-lines_turn (suc n) s c next h step more =
-    let one : suc n - 1 ≡ n = omega arith in both_wrote step.shown (rw (one, step.next_place) at more)
+line_next text d us = sym (append_assoc text (descriptor_line d) (descriptor_lines us))
 
-pub lines_end : (n : ℕ) (s : List ℕ) (c : Cursor) (at : ℕ) {room : List ℕ} → n ≤ 0 → WroteIfFits at (descriptor_lines (shown_by n s c)) room room at
-unfolding descriptor_lines
-lines_end zero s c at {room} h = nothing_wrote at room
-lines_end (suc n) s c at h = absurd (omega (arith, h))
+module _ {all : List ℕ} {before now : Writer} where
+  -- one line more
+  pub line_written : {after : Writer} (d : List ℕ) (us : List (List ℕ)) → Writing all before now (d ∷ us) → Adds (descriptor_line d) now after (Ok tt)
+      → Writing all before after us
+  line_written d us w a = record {
+    text = w.text ++ descriptor_line d;
+    adds = adds_then w.adds a;
+    whole = sym (line_next w.text d us) ∙ w.whole;
+  }
+
+  -- one that does not fit
+  pub line_refused : {after : Writer} {e : Refusal} (d : List ℕ) (us : List (List ℕ)) → Writing all before now (d ∷ us) → Adds (descriptor_line d) now after (Err e)
+      → Adds all before after (Err e)
+  unfolding descriptor_lines
+  line_refused d us w a = rw (← w.whole) (adds_then w.adds (adds_stop (descriptor_lines us) a))
+
+  -- all of them
+  pub all_written : Writing all before now [] → Adds all before now (Ok tt)
+  unfolding descriptor_lines
+  all_written w = rw (← w.whole, append-nil) w.adds

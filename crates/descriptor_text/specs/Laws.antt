@@ -1,6 +1,6 @@
 -- What the text of a descriptor list promises, as statements; proofs/Laws.antt, Counted.antt and ReadBack.antt prove them.
 -- Assumes nothing.
-use Rattle.std.specs.Prelude.{◌≡◌, Bool, true, false, List, [], ◌∷◌, ℕ, ◌+◌, ◌-◌, ◌*◌, ◌≤◌, ◌<◌, eqb, length, drop, replicate}
+use Rattle.std.specs.Prelude.{◌≡◌, Bool, true, false, List, [], ◌∷◌, ℕ, ◌+◌, ◌-◌, ◌*◌, ◌≤◌, ◌<◌, eqb, length, drop, replicate, Result}
 use Rattle.octets.specs.Bytes.{Bytes}
 use Rattle.octets.specs.Lent.{when, over}
 use Rattle.octets.specs.Tests.{part_of}
@@ -12,8 +12,9 @@ use Rattle.descriptors.specs.Descriptor.{descriptor_head_size, is_descriptor}
 use Rattle.descriptors.specs.Tested.{count_of}
 use Rattle.keypage.specs.Laws.{HoldsReserved}
 use Rattle.descriptor_text.specs.Lines.{descriptor_line, list_text}
-use Rattle.descriptor_text.specs.Described.{described_room, label_described, page_described}
-use Rattle.descriptor_text.specs.declared.Described.{Described}
+use Rattle.descriptor_text.specs.Described.{described_room, described_says, label_described, page_described}
+use Rattle.wording.specs.declared.text.Text.{Text}
+use Rattle.refusals.specs.declared.Refusal.{Refusal}
 
 -- a label's list of three descriptors, 00h of no bytes, the reserved 10h of one and C0h of three, and the text of it
 abbrev pub three_descriptors : List ℕ
@@ -54,18 +55,15 @@ ReservedDescribed = (p : List ℕ) → HoldsReserved p → page_described p ≡ 
 
 -- ---- a text by value has its room, and lies in it
 
-abbrev pub described_says : Described → ℕ × ℕ × List ℕ
-described_says d = (d.number, d.size, d.bytes)
-
-pub record DescribedFits (d : Described) : Type 0 where
-  pub room : length d.bytes ≡ described_room
-  pub size : d.size ≤ described_room
+pub record DescribedFits (d : Result (Text described_room) Refusal) : Type 0 where
+  pub room : length (described_says d).2 ≡ described_room
+  pub size : (described_says d).1 ≤ described_room
 
 abbrev pub LabelFits : Type 0
-LabelFits = (s : List ℕ) (d : Described) → label_described s ≡ described_says d → DescribedFits d
+LabelFits = (s : List ℕ) (d : Result (Text described_room) Refusal) → label_described s ≡ described_says d → DescribedFits d
 
 abbrev pub PageFits : Type 0
-PageFits = (p : List ℕ) (d : Described) → page_described p ≡ described_says d → DescribedFits d
+PageFits = (p : List ℕ) (d : Result (Text described_room) Refusal) → page_described p ≡ described_says d → DescribedFits d
 
 -- ---- for each input one text
 

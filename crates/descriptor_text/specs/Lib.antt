@@ -1,4 +1,3 @@
 pub mod Lines
-pub mod Shown
 pub mod Described
 pub mod Laws

@@ -3,22 +3,23 @@
 #![tactic(auto)]
 
 mod line;
-mod stepping;
 
 ghost use Rattle.std.specs.Prelude.{◌≡◌, true, ◌≤◌, length};
-ghost use Rattle.wording.specs.Writing.{Wrote};
+ghost use Rattle.wording.specs.Writer.{Adds};
 ghost use Rattle.descriptors.specs.Tested.{list_ok};
 ghost use Rattle.descriptors.specs.Labels.{label_max};
 ghost use Rattle.descriptor_text.specs.Lines.{list_text};
-ghost use Rattle.descriptor_text.specs.Described.{described_room, label_described, page_described};
+ghost use Rattle.descriptor_text.specs.Described.{described_as, described_says, label_described, page_described};
 
-use descriptors::cursor::begin_as;
-use descriptors::label::LABEL_STRICT;
-use descriptors::label_check;
-use keypage::reading::{LIST_STRICT, list_in};
+use descriptors::label::{LABEL_OPENING, check_label};
+use descriptors::list::Opening;
+use descriptors::reader::{Opened, next, open_as};
+use keypage::reading::{LIST_OPENING, list_in};
+use line::put_descriptor;
 use octets::strings::part;
-use stepping::put_all;
-use wording::writing::put_line;
+use refusals::Refusal;
+use wording::text::Text;
+use wording::writing::Writer;
 
 // The zero bytes of a label before its list.
 const ZERO_SIZE: usize = 2;
@@ -26,68 +27,46 @@ const ZERO_SIZE: usize = 2;
 // Room for the text of any list of 4,096 bytes.
 const ROOM: usize = 12288;
 
-// A text by value: the number that refuses it, or 0 with its size and its bytes with zeros after them.
-#[derive(Drop)]
-pub struct Described {
-    pub number: u8,
-    pub size: usize,
-    pub bytes: [u8; ROOM],
-}
-
-// The text of a list that is accepted.
-fn put_list(list: &[u8], label: bool, strict: bool, out: &mut [u8]) -> usize
-    requires { (list_ok label strict list.now ≡ true) × (length list.now ≤ label_max) × (described_room ≤ length out.old) }
-    ensures { Wrote 0 (list_text label list.now) out.old out.new result }
+// The text of a list that is accepted, as far as the room reaches.
+fn put_list(writer: &mut Writer<'_>, list: &[u8], opening: Opening) -> Result<(), Refusal>
+    requires { list_ok opening.label opening.strict list.now ≡ true }
+    ensures { Adds (list_text opening.label list.now) writer.old writer.new result }
 {
-    let begun = begin_as(list, label, strict);
-    let at = put_line(out, 0, b"descriptors", begun.count as u64);
-    put_all(list, begun.place, begun.count, out, at)
+    let Opened { count, mut reader } = open_as(list, opening)?;
+    writer.put_line(b"descriptors", count as u64)?;
+    while let Some(descriptor) = next(&mut reader)? {
+        put_descriptor(writer, descriptor)?;
+    }
+    Ok(())
 }
 
-// The text of a label.
-pub fn describe_label(label: &[u8]) -> Described
-    ensures { label_described label.now ≡ (result.number, result.size, result.bytes) }
+// The same by value; of a list of 4,096 bytes it always has room.
+fn describe(list: &[u8], opening: Opening) -> Text<ROOM>
+    requires { (list_ok opening.label opening.strict list.now ≡ true) × (length list.now ≤ label_max) }
+    ensures { described_as 0 (list_text opening.label list.now) ≡ (0, result.size, result.bytes) }
 {
     let mut bytes = [0u8; ROOM];
-    let mut count = 0;
-    let number = label_check(label, &mut count);
-    if number != 0 {
-        return Described {
-            number,
-            size: 0,
-            bytes,
-        };
-    }
-    let size = put_list(
-        part(label, ZERO_SIZE, label.len()),
-        true,
-        LABEL_STRICT,
-        &mut bytes,
-    );
-    Described {
-        number,
-        size,
-        bytes,
-    }
+    let mut writer = Writer {
+        out: &mut bytes,
+        at: 0,
+    };
+    put_list(&mut writer, list, opening).unwrap();
+    let size = writer.at;
+    Text { size, bytes }
 }
 
-// The text of a key page's list, which is stepped along as reading tests it.
-pub fn describe_page(page: &[u8]) -> Described
-    ensures { page_described page.now ≡ (result.number, result.size, result.bytes) }
+// The text of a label; or 2 or 4, as its check gives.
+pub fn describe_label(label: &[u8]) -> Result<Text<ROOM>, Refusal>
+    ensures { label_described label.now ≡ described_says result }
 {
-    let mut bytes = [0u8; ROOM];
-    let number = keypage::reading::check(page);
-    if number != 0 {
-        return Described {
-            number,
-            size: 0,
-            bytes,
-        };
-    }
-    let size = put_list(list_in(page), false, LIST_STRICT, &mut bytes);
-    Described {
-        number,
-        size,
-        bytes,
-    }
+    check_label(label)?;
+    Ok(describe(part(label, ZERO_SIZE, label.len()), LABEL_OPENING))
+}
+
+// The text of a key page's list, which is stepped along as reading tests it; or 2, 3 or 4, as reading gives.
+pub fn describe_page(page: &[u8]) -> Result<Text<ROOM>, Refusal>
+    ensures { page_described page.now ≡ described_says result }
+{
+    keypage::reading::check(page)?;
+    Ok(describe(list_in(page), LIST_OPENING))
 }

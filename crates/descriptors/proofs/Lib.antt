@@ -10,5 +10,6 @@ pub mod Laws
 pub mod Shown
 pub mod StrictLaws
 pub mod Unique
+pub mod ReaderSteps
 pub mod ReaderLaws
 pub mod Whole

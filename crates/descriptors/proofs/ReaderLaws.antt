@@ -1,7 +1,7 @@
 -- The laws of specs/ReaderLaws.antt: what is proved of the cursor, over the reader's own calls.
 -- Assumes nothing.
 use mathlib.Core.Path.{◌≡◌, refl, sym, ap, ap₂, ◌∙◌}
-use mathlib.Core.Bool.{Bool, true, false, false≢true}
+use mathlib.Core.Bool.{Bool, true, false}
 use mathlib.Core.List.{List, []}
 use Prim.Native.Nat.{ℕ, zero, suc, ◌-◌}
 use native.Mathlib.Omega.{arith}
@@ -10,18 +10,19 @@ use denote.Ref.{Bor}
 use Rattle.octets.specs.Tests.{part_of}
 use Rattle.octets.specs.Places.{placed, part_in}
 use Rattle.octets.proofs.Unique.{unique}
-use Rattle.std.specs.Prelude.{Option, Some, None, Result, Ok, Err}
+use Rattle.std.specs.Prelude.{Result, Ok, Err}
 use Rattle.refusals.specs.declared.Refusal.{Refusal}
 use Rattle.refusals.proofs.Laws.{number_unique, not_zero}
 use Rattle.octets.specs.Split.{Split}
 use Rattle.descriptors.specs.Tested.{list_ok, unreserved, count_of}
 use Rattle.descriptors.specs.Steps.{cursor_at_start, BegunAnswer, AdvanceAnswer, advance_of, part_shown, cursor_after}
-use Rattle.descriptors.specs.Readers.{standing, OpenedAnswer, opened_says, ShownAnswer, shown_says, shown_of, next_of}
+use Rattle.descriptors.specs.Readers.{standing, OpenedAnswer, opened_says, ShownAnswer, shown_of, next_of}
 use Rattle.descriptors.specs.ReaderLaws.{ReaderRun, opening_of, step_of, ReaderCounts, ReaderShows, ReaderThenNothing, ReaderStrictExactly, ReaderStrictSame}
 use Rattle.descriptors.specs.ReaderLaws.{ReaderRefusedStays, ReaderOpenUnique, ReaderNextUnique, PartAtUnique}
 use Rattle.descriptors.specs.declared.cursor.Cursor.{Cursor}
 use Rattle.descriptors.specs.declared.reader.Reader.{Reader}
 use Rattle.descriptors.specs.declared.reader.Opened.{Opened}
+use Rattle.descriptors.proofs.ReaderSteps.{none_shown}
 use Rattle.descriptors.proofs.Split.{parse-split}
 use Rattle.descriptors.proofs.Answers.{number_ok, begun-counted}
 use Rattle.descriptors.proofs.Laws.{shows_in_order, then-nothing, refused_quiet, refused_stays}
@@ -35,12 +36,6 @@ Next = ShownAnswer × Reader
 after_last : (i : ℕ) (s : List ℕ) (c : Cursor) → cursor_after (suc i) s c ≡ (advance_of s (cursor_after i s c)).next
 after_last zero s c = refl
 after_last (suc i) s c = after_last i s (advance_of s c).next
-
--- number 0 and nothing shown is the answer that nothing is left
-none_shown : (d : Reader) (x : Result (Option (Bor (List ℕ))) Refusal) → (shown_says d x).number ≡ 0 → (shown_says d x).shows ≡ false → x ≡ Ok None
-none_shown d (Ok (Some p)) n b = absurd (false≢true (sym b))
-none_shown d (Ok None) n b = refl
-none_shown d (Err e) n b = absurd (not_zero e (sym n))
 
 module _ (l : Bor (List ℕ)) (label strict : Bool) (run : ReaderRun l label strict) where
   abbrev on : Cursor → Reader

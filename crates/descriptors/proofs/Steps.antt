@@ -15,6 +15,7 @@ use Rattle.descriptors.specs.Descriptor.{type_of, is_reserved, is_refused, is_de
 use Rattle.descriptors.specs.Tested.{admits, unreserved}
 use Rattle.descriptors.specs.Steps.{first_shown, split_step, step_answer, cursor_on, AdvanceAnswer, advanced_by, advance_of, part_shown, cursor_after}
 use Rattle.descriptors.specs.declared.cursor.Cursor.{Cursor}
+use Rattle.descriptors.proofs.Sizes.{said_least, descriptor-parts}
 use Rattle.descriptors.proofs.Split.{split-flatten}
 
 -- from the place on, the list is these descriptors
@@ -25,14 +26,15 @@ pub record Stands (label strict : Bool) (s : List ℕ) (at : ℕ) (ds : List (Li
   pub admitted : all (admits label strict) ds ≡ true
 
 -- the first of them that is not reserved is d, and us are those after it
-record Shows (label strict : Bool) (s : List ℕ) (at : ℕ) (d : List ℕ) (us : List (List ℕ)) : Type 0 where
-  from : ℕ
-  end : ℕ
-  answer : step_answer label strict s at ≡ (0, from ∷ end ∷ [])
-  part : part_of s from (end - from) ≡ d
-  rest : List (List ℕ)
-  stands : Stands label strict s end rest
-  later : unreserved label rest ≡ us
+pub record Shows (label strict : Bool) (s : List ℕ) (at : ℕ) (d : List ℕ) (us : List (List ℕ)) : Type 0 where
+  pub from : ℕ
+  pub end : ℕ
+  pub answer : step_answer label strict s at ≡ (0, from ∷ end ∷ [])
+  pub part : part_of s from (end - from) ≡ d
+  pub moves : at < end
+  pub rest : List (List ℕ)
+  pub stands : Stands label strict s end rest
+  pub later : unreserved label rest ≡ us
 
 module _ (label strict : Bool) (s : List ℕ) where
   -- a step by the descriptors from the place on
@@ -57,6 +59,11 @@ module _ (label strict : Bool) (s : List ℕ) where
       let size : at + length d - at ≡ length d = omega arith in
       ap (part_of s at) size ∙ ap (take (length d)) h.left ∙ take-append_seam d (flatten ds)
 
+  stands_some : (at : ℕ) (d : List ℕ) (ds : List (List ℕ)) → Stands label strict s at (d ∷ ds) → at < at + length d
+  unfolding all
+  stands_some at d ds h =
+      let (zero_byte, long) = descriptor-parts d (and_left (is_descriptor d) (all is_descriptor ds) h.whole) in omega (arith, said_least d)
+
   -- none of them is refused
   stands_lax : (at : ℕ) (d : List ℕ) (ds : List (List ℕ)) → Stands label strict s at (d ∷ ds) → is_refused label strict (type_of d) ≡ false
   unfolding all
@@ -73,7 +80,7 @@ module _ (label strict : Bool) (s : List ℕ) where
       passed : is_refused label strict (type_of d) ≡ false → first_shown label strict at (d ∷ ds) [] ≡ first_shown label strict (at + length d) ds []
       passed lax = rw (lax, e)
 
-  shows : (at : ℕ) (ds : List (List ℕ)) (d : List ℕ) (us : List (List ℕ)) → Stands label strict s at ds → unreserved label ds ≡ d ∷ us
+  pub shows : (at : ℕ) (ds : List (List ℕ)) (d : List ℕ) (us : List (List ℕ)) → Stands label strict s at ds → unreserved label ds ≡ d ∷ us
       → Shows label strict s at d us
   unfolding unreserved first_shown
   shows at [] d us h e = absurd (let z : ◌≡◌ {A = ℕ} 0 1 = cc in omega arith)
@@ -85,7 +92,7 @@ module _ (label strict : Bool) (s : List ℕ) where
       go true r ih q =
           let w = ih q in
           record
-          { from = w.from; end = w.end; answer = step_skip at f ds h r ∙ w.answer; part = w.part; rest = w.rest; stands = w.stands; later = w.later }
+          { from = w.from; end = w.end; answer = step_skip at f ds h r ∙ w.answer; part = w.part; moves = omega (arith, w.moves); rest = w.rest; stands = w.stands; later = w.later }
       go false r ih q =
           let first : f ≡ d = cc in
           let others : unreserved label ds ≡ us = cc in
@@ -94,12 +101,13 @@ module _ (label strict : Bool) (s : List ℕ) where
             end = at + length f;
             answer = stands-step at (f ∷ ds) h ∙ rw (stands_lax at f ds h, r);
             part = stands_part at f ds h ∙ first;
+            moves = stands_some at f ds h;
             rest = ds;
             stands = stands_past at f ds h;
             later = others;
           }
 
-  shows-none : (at : ℕ) (ds : List (List ℕ)) → Stands label strict s at ds → unreserved label ds ≡ [] → step_answer label strict s at ≡ (0, [])
+  pub shows-none : (at : ℕ) (ds : List (List ℕ)) → Stands label strict s at ds → unreserved label ds ≡ [] → step_answer label strict s at ≡ (0, [])
   unfolding unreserved first_shown
   shows-none at [] h e = stands-step at [] h
   shows-none at (f ∷ ds) h e = go (is_reserved label (type_of f)) refl (shows-none (at + length f) ds (stands_past at f ds h)) e

@@ -14,8 +14,11 @@ const ZEROS: [u8; 2] = [0; 2];
 // The types that a label's list has.
 const PRESENT: [usize; 4] = [0x00, 0x01, 0x03, 0x04];
 
-// Whether a label's list is opened strict: it is not, since managers in the field put reserved types into labels (document 02, No. 7).
-pub const LABEL_STRICT: bool = false;
+// How a label's list is opened: not strict, since managers in the field put reserved types into labels (document 02, No. 7).
+pub const LABEL_OPENING: Opening = Opening {
+    label: true,
+    strict: false,
+};
 
 // Whether one of the whole descriptors that a list begins with has this type.
 fn has(list: &[u8], kind: usize) -> bool
@@ -32,13 +35,7 @@ pub fn check_label(label: &[u8]) -> Result<usize, Refusal>
     if !PRESENT.iter().all(|kind| has(list, *kind)) {
         return Err(Refusal::Layout);
     }
-    let count = check_list_as(
-        list,
-        Opening {
-            label: true,
-            strict: LABEL_STRICT,
-        },
-    )?;
+    let count = check_list_as(list, LABEL_OPENING)?;
     if label.len() > LABEL_MAX {
         return Err(Refusal::PastMaximum);
     }
