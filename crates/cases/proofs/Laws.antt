@@ -8,8 +8,7 @@ use borrow.Author.Tests.{eqb-true, leb-true, ltb-false}
 use lib.Dec.{eqb, ltb}
 use lib.ListN.{length}
 use Rattle.octets.specs.Lent.{when}
-use Rattle.octets.proofs.Unique.{unique-by}
-use Rattle.cases.specs.declared.Text.{Text}
+use Rattle.wording.proofs.Told.{text_unique}
 use Rattle.cases.specs.Words.{up_to, parts_after, parts_by}
 use Rattle.cases.specs.Run.{lines_text, input_max, run_max, input_refused, text_refused, run_text, in_room}
 use Rattle.cases.specs.Laws.{rejoined, PartsJoin, CallsCounted, RunFits, RunUnique}
@@ -44,4 +43,4 @@ run_fits input = go (ltb input_max (length input)) (ltb run_max (length (lines_t
     go false false e = ltb-false run_max (length (lines_text input)) e
 
 pub run_unique : RunUnique
-run_unique input = unique-by (λ (t : Text). (t.size, t.bytes)) (λ (a : ℕ × List ℕ). record { size = a.0; bytes = a.1 }) (λ t. refl) (in_room (run_text input))
+run_unique input = text_unique (in_room (run_text input))

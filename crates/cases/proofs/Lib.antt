@@ -1,9 +1,8 @@
 pub mod Splitting
 pub mod Held
-pub mod Named
 pub mod Rounds
+pub mod Named
 pub mod Told
-pub mod Written
-pub mod Along
+pub mod Numbered
 pub mod Answers
 pub mod Laws

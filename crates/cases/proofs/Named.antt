@@ -1,51 +1,69 @@
--- The table of calls: the number of a name, and how many strings a call takes.
+-- The table of the code beside the specification's: entry by entry they have the same names, in the same order.
 -- Assumes nothing.
-use mathlib.Core.Path.{◌≡◌, refl, sym, ◌∙◌}
-use mathlib.Core.Bool.{true, false}
+use mathlib.Core.Path.{◌≡◌, refl, ap, ◌∙◌}
+use mathlib.Core.Bool.{Bool, true, false}
 use mathlib.Core.List.{List, [], ◌∷◌}
-use Prim.Native.Nat.{ℕ, suc, ◌+◌, ◌≤◌, ◌<◌}
-use native.Mathlib.Numerals.{add-one}
-use lib.Dec.{eqb, leb}
-use lib.ListN.{length, get_or, drop, drop_of_length-le, get_or-map}
-use lib.Seq.{drop-cons}
-use borrow.Author.Tests.{leb-true}
+use Prim.Native.Nat.{ℕ, suc, ◌+◌, ◌<◌}
+use native.Mathlib.Nat.{zero-add}
+use lib.Dec.{eqb, lit<}
+use native.Mathlib.Omega.{arith}
+use lib.ListN.{length}
+use Rattle.std.specs.Prelude.{Option}
+use Rattle.std.specs.Borrow.{Bor}
 use Rattle.octets.specs.Same.{same}
-use Rattle.octets.specs.Tests.{all}
-use Rattle.octets.proofs.Tests.{all_at}
-use Rattle.wording.specs.Ascii.{ascii}
-use Rattle.cases.specs.Words.{up_to, parts_after, word_at}
-use Rattle.cases.specs.Calls.{Call, calls, call_count, no_call, call_named}
+use Rattle.cases.specs.declared.calls.Call.{Call as Named}
+use Rattle.cases.specs.declared.calls.Call.TheVariants.{Encrypt, Decrypt, EncryptRounds, DecryptRounds, CcmEncrypt, GcmEncrypt, CcmDecrypt, GcmDecrypt, Wrap, Unwrap}
+use Rattle.cases.specs.Calls.{Call, calls, call_count, call_named}
+use Rattle.cases.specs.Named.{place_of, place_or, named_place, named_of, entry}
 
--- ---- along the table: what is left at i decides
+abbrev pub Entry : Type 0
+Entry = Bor (List ℕ) × Named
 
-module _ (n : List ℕ) (cs : List Call) (i : ℕ) where
-  pub named-stop : i < length cs → same (get_or cs i no_call).name n ≡ true → call_named n (drop i cs) ≡ 0
-  unfolding call_named
-  named-stop h e = rw (drop-cons cs i no_call h, e)
+-- entries from place i on beside calls
+abbrev pub Beside : ℕ → List Entry → List Call → Type 0
+Beside i [] [] = Unit {0}
+Beside i [] (c ∷ cs) = ⊥
+Beside i (e ∷ es) [] = ⊥
+Beside i (e ∷ es) (c ∷ cs) = (e.0.now ≡ c.name) × (place_of e.1 ≡ i) × Beside (suc i) es cs
 
-  pub named_turn : i < length cs → same (get_or cs i no_call).name n ≡ false → call_named n (drop i cs) ≡ suc (call_named n (drop (i + 1) cs))
-  unfolding call_named
-  named_turn h e = rw (drop-cons cs i no_call h, e, add-one)
+pub found_at : (n : List ℕ) (i : ℕ) (es : List Entry) (cs : List Call) → Beside i es cs → place_or (i + length cs) (named_of n es) ≡ i + call_named n cs
+unfolding call_named named_of
+found_at n i [] [] b = refl
+found_at n i [] (c ∷ cs) b = absurd b
+found_at n i (e ∷ es) [] b = absurd b
+found_at n i (e ∷ es) (c ∷ cs) (name, place, rest) = go (same c.name n) refl (found_at n (suc i) es cs rest)
+  where
+    go : (t : Bool) → same c.name n ≡ t → place_or (suc i + length cs) (named_of n es) ≡ suc i + call_named n cs
+        → place_or (i + suc (length cs)) (named_of n (e ∷ es)) ≡ i + call_named n (c ∷ cs)
+    go true t more = rw (name, t) (place ∙ omega arith)
+    go false t more =
+        rw (name, t)
+        (ap (λ (k : ℕ). place_or k (named_of n es)) (omega arith) ∙ more ∙ omega arith)
 
-  pub named_end : length cs ≤ i → call_named n (drop i cs) ≡ 0
-  unfolding call_named
-  named_end h = rw (drop_of_length-le cs {i = i} h)
+pub named_by : (n : List ℕ) (es : List Entry) {r : Option Named} → r ≡ named_of n es → Beside 0 es calls → named_place r ≡ call_named n calls
+named_by n es e b = ap named_place e ∙ found_at n 0 es calls b ∙ zero-add (call_named n calls)
 
--- the names as words of one text
-pub name-at : (i : ℕ)
-    → word_at (ascii "aes256_encrypt aes256_decrypt aes256_encrypt_1000 aes256_decrypt_1000 ccm_encrypt gcm_encrypt ccm_decrypt gcm_decrypt wrap unwrap") i ≡ (get_or calls i no_call).name
-unfolding up_to parts_after
-name-at i = get_or-map (λ (c : Call). c.name) calls i no_call
+pub place_small : (c : Named) → place_of c < call_count
+place_small Encrypt = lit< tt
+place_small Decrypt = lit< tt
+place_small EncryptRounds = lit< tt
+place_small DecryptRounds = lit< tt
+place_small CcmEncrypt = lit< tt
+place_small GcmEncrypt = lit< tt
+place_small CcmDecrypt = lit< tt
+place_small GcmDecrypt = lit< tt
+place_small Wrap = lit< tt
+place_small Unwrap = lit< tt
 
--- ---- the strings that a call takes
-
-pub strings_at : (i : ℕ) → get_or (1 ∷ 1 ∷ 1 ∷ 1 ∷ 4 ∷ 4 ∷ 5 ∷ 5 ∷ 2 ∷ 2 ∷ []) i 0 ≡ (get_or calls i no_call).strings
-strings_at i = get_or-map (λ (c : Call). c.strings) calls i no_call
-
--- one for those that are lent a block
-pub block_at : (i : ℕ) → eqb (get_or calls i no_call).strings 1 ≡ (get_or calls i no_call).block
-block_at i = sym (get_or-map (λ (c : Call). eqb c.strings 1) calls i no_call) ∙ get_or-map (λ (c : Call). c.block) calls i no_call
-
-pub strings_few : (i : ℕ) → i < call_count → (get_or calls i no_call).strings ≤ 5
-unfolding all
-strings_few i h = leb-true (get_or calls i no_call).strings 5 (all_at (λ (c : Call). leb c.strings 5) calls i no_call refl h)
+-- a call is lent a block where it has one string
+pub block_is : (c : Named) → (entry c).block ≡ eqb (entry c).strings 1
+block_is Encrypt = refl
+block_is Decrypt = refl
+block_is EncryptRounds = refl
+block_is DecryptRounds = refl
+block_is CcmEncrypt = refl
+block_is GcmEncrypt = refl
+block_is CcmDecrypt = refl
+block_is GcmDecrypt = refl
+block_is Wrap = refl
+block_is Unwrap = refl

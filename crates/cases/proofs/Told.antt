@@ -1,104 +1,110 @@
--- A line's text, by the tests that are made of it.
+-- The text of a line, by what was found in it.
 -- Assumes nothing.
-use mathlib.Core.Path.{◌≡◌, refl, sym, ap, subst, ◌∙◌}
-use mathlib.Core.Bool.{Bool, true, false, ◌&&◌}
+use mathlib.Core.Path.{◌≡◌, refl, sym, ap, ◌∙◌}
+use mathlib.Core.Bool.{Bool, true, false, and-false}
 use mathlib.Core.List.{List, [], ◌∷◌, ◌++◌}
-use Prim.Native.Nat.{ℕ, ◌+◌, ◌≤◌, ◌<◌}
-use Prim.Native.Char.{code}
+use Prim.Native.Nat.{ℕ, zero, suc, ◌+◌, ◌<◌}
 use native.Mathlib.Omega.{arith}
-use borrow.Author.Tests.{ltb-true}
-use lib.Dec.{eqb, ltb}
-use lib.ListN.{length, get_or, take, drop, length-append, length-drop}
-use lib.Seq.{take_at}
-use Rattle.octets.specs.Tests.{all, part_of}
-use Rattle.octets.proofs.Tests.{and_left, every_at}
+use borrow.Author.Tests.{lt-ltb, eq-eqb, ne_eqb}
+use lib.ListN.{length, get_or, take, drop}
+use Rattle.octets.specs.Tests.{all}
 use Rattle.wording.specs.Lines.{space}
 use Rattle.cases.specs.Words.{parts_after, words_of, word_at, some_bytes}
+use Rattle.cases.specs.Strings.{is_bytes, bytes_in, is_lent, lent_in}
 use Rattle.cases.specs.Calls.{Call, calls, call_count, no_call, call_named}
 use Rattle.cases.specs.Line.{answer_text, refused_text, is_comment, words_right, string_at, strings_right, answer_of, asked_text, case_text}
-use Rattle.cases.specs.Parts.{Holds}
-use Rattle.cases.specs.Strings.{is_bytes, bytes_in, is_lent, lent_in}
-
--- ---- comments
-
-pub comment_empty : (line : List ℕ) → length line ≡ 0 → is_comment line ≡ true
-comment_empty [] e = refl
-comment_empty (x ∷ line) e = absurd (omega arith)
-
-pub comment_first : (line : List ℕ) → (length line ≡ 0 → ⊥) → eqb (get_or line 0 0) (code "#") ≡ is_comment line
-comment_first [] e = absurd (e refl)
-comment_first (x ∷ line) e = refl
 
 -- ---- the words of a call
 
-module _ (line : List ℕ) (call n : ℕ) (last : ℕ) (counted : last ≡ length (parts_after space line)) (takes : n ≡ (get_or calls call no_call).strings) where
-  pub words_told : (t : Bool) → t ≡ all some_bytes (words_of line) → (ltb call call_count && eqb last (n + 2)) ≡ true → t ≡ words_right line call
+module _ (line : List ℕ) (call : ℕ) where
+  pub right-none : call ≡ call_count → words_right line call ≡ false
   unfolding words_right
-  words_told t e h = rw (← counted, ← takes, h) e
+  right-none e = rw e
 
-  pub words_other : (ltb call call_count && eqb last (n + 2)) ≡ false → false ≡ words_right line call
+  pub right-few : (length (parts_after space line) ≡ (get_or calls call no_call).strings + 2 → ⊥) → words_right line call ≡ false
   unfolding words_right
-  words_other h = rw (← counted, ← takes, h)
+  right-few h = rw (ne_eqb (length (parts_after space line)) ((get_or calls call no_call).strings + 2) h, and-false)
 
-pub words-known : (line : List ℕ) (call : ℕ) → words_right line call ≡ true → call < call_count
-unfolding words_right
-words-known line call h = ltb-true call call_count (and_left (ltb call call_count) _ (and_left _ (all some_bytes (words_of line)) h))
+  pub right-empty : all some_bytes (words_of line) ≡ false → words_right line call ≡ false
+  unfolding words_right
+  right-empty e = rw (e, and-false)
 
--- ---- the text of a line
+  pub right_all : call < call_count → length (parts_after space line) ≡ (get_or calls call no_call).strings + 2 → all some_bytes (words_of line) ≡ true
+      → words_right line call ≡ true
+  unfolding words_right
+  right_all h e f = rw (lt-ltb call call_count h, eq-eqb (length (parts_after space line)) ((get_or calls call no_call).strings + 2) e, f)
+
+-- ---- its strings, of which the call has n, and what it is lent
+
+module _ (line : List ℕ) (k : Call) {n : ℕ} (strings : n ≡ k.strings) where
+  abbrev pub Right : ℕ → Type 0
+  Right i = is_bytes (string_at line n i) ≡ true
+
+  abbrev pub Wrong : ℕ → Type 0
+  Wrong i = is_bytes (string_at line n i) ≡ false
+
+  pub stop_a : Wrong 0 → strings_right line k ≡ false
+  unfolding strings_right
+  stop_a a = rw (← strings, a)
+
+  pub stop_b : Right 0 → Wrong 1 → strings_right line k ≡ false
+  unfolding strings_right
+  stop_b a b = rw (← strings, a, b)
+
+  pub stop_c : Right 0 → Right 1 → Wrong 2 → strings_right line k ≡ false
+  unfolding strings_right
+  stop_c a b c = rw (← strings, a, b, c)
+
+  pub stop_d : Right 0 → Right 1 → Right 2 → Wrong 3 → strings_right line k ≡ false
+  unfolding strings_right
+  stop_d a b c d = rw (← strings, a, b, c, d)
+
+  pub stop_e : Right 0 → Right 1 → Right 2 → Right 3 → Wrong 4 → strings_right line k ≡ false
+  unfolding strings_right
+  stop_e a b c d e = rw (← strings, a, b, c, d, e)
+
+  module _ (a : Right 0) (b : Right 1) (c : Right 2) (d : Right 3) (e : Right 4) {block : Bool} (is_block : block ≡ k.block) where
+    pub stop_lent : is_lent block (word_at line (n + 2)) ≡ false → strings_right line k ≡ false
+    unfolding strings_right
+    stop_lent l = rw (← strings, ← is_block, a, b, c, d, e, l)
+
+    pub all_right : is_lent block (word_at line (n + 2)) ≡ true → strings_right line k ≡ true
+    unfolding strings_right
+    all_right l = rw (← strings, ← is_block, a, b, c, d, e, l)
+
+  pub answered : {a b c d e l : List ℕ} {x : ℕ × List ℕ} {block : Bool} → block ≡ k.block → a ≡ bytes_in (string_at line n 0) → b ≡ bytes_in (string_at line n 1)
+      → c ≡ bytes_in (string_at line n 2) → d ≡ bytes_in (string_at line n 3) → e ≡ bytes_in (string_at line n 4) → l ≡ lent_in block (word_at line (n + 2))
+      → k.gives a b c d e l ≡ x → x ≡ answer_of line k
+  unfolding answer_of
+  answered is_block ea eb ec ed ee el given = sym given ∙ rw (← strings, ← is_block, ea, eb, ec, ed, ee, el)
+
+-- the front of a room, once it was written over
+pub take_put : (n : ℕ) (xs ys : List ℕ) → length xs ≡ length (take n ys) → take n (xs ++ drop n ys) ≡ xs
+take_put zero [] ys e = refl
+take_put zero (x ∷ xs) ys e = absurd (omega arith)
+take_put (suc n) [] [] e = refl
+take_put (suc n) [] (y ∷ ys) e = absurd (omega arith)
+take_put (suc n) (x ∷ xs) [] e = absurd (omega arith)
+take_put (suc n) (x ∷ xs) (y ∷ ys) e = ap (λ (l : List ℕ). x ∷ l) (take_put n xs ys (omega arith))
+
+-- ---- the line
 
 module _ (line : List ℕ) (number : ℕ) where
-  pub case_comment : is_comment line ≡ true → case_text line number ≡ []
+  pub text_comment : is_comment line ≡ true → case_text line number ≡ []
   unfolding case_text
-  case_comment h = rw h
+  text_comment e = rw e
 
-  module _ {call : ℕ} (named : call ≡ call_named (word_at line 1) calls) (other : is_comment line ≡ false) where
-    pub case_asked : words_right line call ≡ true → case_text line number ≡ asked_text line number (get_or calls call no_call)
+  module _ (other : is_comment line ≡ false) where
+    pub text_unasked : words_right line (call_named (word_at line 1) calls) ≡ false → case_text line number ≡ refused_text number
     unfolding case_text
-    case_asked h = rw (other, ← named, h)
+    text_unasked e = rw (other, e)
 
-    pub case-refused : words_right line call ≡ false → case_text line number ≡ refused_text number
-    unfolding case_text
-    case-refused h = rw (other, ← named, h)
+    module _ {call : ℕ} (asked : words_right line (call_named (word_at line 1) calls) ≡ true) (is : call_named (word_at line 1) calls ≡ call) where
+      pub text_refused : strings_right line (get_or calls call no_call) ≡ false → case_text line number ≡ refused_text number
+      unfolding case_text asked_text
+      text_refused e = rw (other, asked, is, e)
 
--- ---- the front of a room that a call changed
-
-pub called_room : (after lent : List ℕ) (size : ℕ) {n : ℕ} → length after ≡ size → size ≤ n → length lent ≡ n → n ≡ length (after ++ drop size lent)
-called_room after lent size long short whole = simp (length-append, length-drop) (omega arith)
-
-pub called_part : (after rest : List ℕ) (size : ℕ) {s : List ℕ} → length after ≡ size → s ≡ part_of (after ++ rest) 0 size → s ≡ after
-called_part after rest size long e = e ∙ take_at after rest size long
-
-pub called-answer : (name : List ℕ) {a : ℕ × List ℕ} {n : ℕ} {after s : List ℕ} → a ≡ (n, after) → s ≡ after → answer_text name a ≡ answer_text name (n, s)
-called-answer name {n = n} e f = ap (answer_text name) e ∙ ap (λ (l : List ℕ). answer_text name (n, l)) (sym f)
-
--- ---- the strings of a call
-
--- a string is held as a block is
-pub lent_held : (block : Bool) {w v : List ℕ} {right : Bool} {size : ℕ} {bytes : List ℕ} → w ≡ v
-    → Holds (is_lent block w) (lent_in block w) right size bytes → Holds (is_lent block v) (lent_in block v) right size bytes
-lent_held block {right = right} {size = size} {bytes = bytes} e h = subst (λ (l : List ℕ). Holds (is_lent block l) (lent_in block l) right size bytes) e h
-
-module _ (line : List ℕ) (number : ℕ) (c : Call) {n : ℕ} {block : Bool} (takes : n ≡ c.strings) (is : block ≡ c.block) {ra rb rc rd re rl : Bool} {za zb zc zd ze zl : ℕ} {a b c' d e l : List ℕ}
-    (ha : Holds (is_bytes (string_at line n 0)) (bytes_in (string_at line n 0)) ra za a)
-    (hb : Holds (is_bytes (string_at line n 1)) (bytes_in (string_at line n 1)) rb zb b)
-    (hc : Holds (is_bytes (string_at line n 2)) (bytes_in (string_at line n 2)) rc zc c')
-    (hd : Holds (is_bytes (string_at line n 3)) (bytes_in (string_at line n 3)) rd zd d)
-    (he : Holds (is_bytes (string_at line n 4)) (bytes_in (string_at line n 4)) re ze e)
-    (hl : Holds (is_lent block (word_at line (n + 2))) (lent_in block (word_at line (n + 2))) rl zl l) where
-  right : strings_right line c ≡ (ra && rb && rc && rd && re && rl)
-  unfolding strings_right
-  right = rw (← takes, ← is, ← ha.tested, ← hb.tested, ← hc.tested, ← hd.tested, ← he.tested, ← hl.tested)
-
-  pub asked-refused : (ra && rb && rc && rd && re && rl) ≡ false → asked_text line number c ≡ refused_text number
-  unfolding asked_text
-  asked-refused f = rw (right ∙ f)
-
-  module _ (t : (ra && rb && rc && rd && re && rl) ≡ true) where
-    at : (i : ℕ) → get_or (ra ∷ rb ∷ rc ∷ rd ∷ re ∷ rl ∷ []) i true ≡ true
-    at i = every_at (ra ∷ rb ∷ rc ∷ rd ∷ re ∷ rl ∷ []) i t
-
-    pub asked_ran : {pa pb pc pd pe : List ℕ} → pa ≡ part_of a 0 za → pb ≡ part_of b 0 zb → pc ≡ part_of c' 0 zc → pd ≡ part_of d 0 zd → pe ≡ part_of e 0 ze
-        → asked_text line number c ≡ answer_text (word_at line 0) (c.gives pa pb pc pd pe (take zl l))
-    unfolding asked_text answer_of
-    asked_ran ea eb ec ed ee =
-        rw (right ∙ t, ← takes, ← is, ea ∙ ha.held (at 0), eb ∙ hb.held (at 1), ec ∙ hc.held (at 2), ed ∙ hd.held (at 3), ee ∙ he.held (at 4), hl.held (at 5))
+      pub text_answered : {x : ℕ × List ℕ} → strings_right line (get_or calls call no_call) ≡ true → x ≡ answer_of line (get_or calls call no_call)
+          → case_text line number ≡ answer_text (word_at line 0) x
+      unfolding case_text asked_text
+      text_answered e f = rw (other, asked, is, e, f)

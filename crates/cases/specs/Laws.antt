@@ -2,7 +2,7 @@
 -- Assumes nothing.
 use Rattle.std.specs.Prelude.{◌≡◌, List, [], ◌∷◌, ◌++◌, ℕ, ◌≤◌, length}
 use Rattle.octets.specs.Unique.{UniqueBy}
-use Rattle.cases.specs.declared.Text.{Text}
+use Rattle.wording.specs.declared.text.Text.{Text}
 use Rattle.cases.specs.Words.{parts_by}
 use Rattle.cases.specs.Calls.{calls, call_count}
 use Rattle.cases.specs.Run.{run_max, run_text, in_room}
@@ -27,4 +27,4 @@ RunFits = (input : List ℕ) → length (run_text input) ≤ run_max
 
 -- for each input one text
 abbrev pub RunUnique : Type 0
-RunUnique = (input : List ℕ) → UniqueBy (λ (t : Text). (t.size, t.bytes)) (in_room (run_text input))
+RunUnique = (input : List ℕ) → UniqueBy (λ (t : Text run_max). (t.size, t.bytes)) (in_room (run_text input))

@@ -1,24 +1,35 @@
--- What the private functions promise: a word's bytes in a room, and texts written one after the other.
+-- What the private functions promise: a word's bytes, an answer, and the text of the lines so far.
 -- Assumes nothing.
-use Rattle.std.specs.Prelude.{◌≡◌, Bool, true, List, ◌++◌, ℕ, ◌+◌, ◌≤◌, ◌<◌, length, take}
-use Rattle.wording.specs.Writing.{Wrote}
+use Rattle.std.specs.Prelude.{◌≡◌, ℕ, Bool, true, false, List, take, Option, Some, None}
+use Rattle.refusals.specs.Numbers.{outcome_number}
+use Rattle.wording.specs.declared.text.Text.{Text}
 use Rattle.cases.specs.Strings.{word_max}
+use Rattle.cases.specs.Words.{word_at}
+use Rattle.cases.specs.Calls.{calls, call_named}
+use Rattle.cases.specs.Named.{place_of}
+use Rattle.cases.specs.Line.{is_comment, words_right, answer_text, refused_text, case_text}
+use Rattle.cases.specs.declared.calls.Call.{Call as Named}
+use Rattle.cases.specs.declared.lines.Answer.{Answer}
 
--- where `test` holds, the first `size` bytes of the room are s
-pub record Holds (test : Bool) (s : List ℕ) (right : Bool) (size : ℕ) (room : List ℕ) : Type 0 where
-  pub tested : right ≡ test
-  pub whole : length room ≡ word_max
-  pub small : size ≤ word_max
-  pub held : right ≡ true → take size room ≡ s
+-- s where `test` holds, and nothing where it does not
+abbrev pub Reads : Bool → List ℕ → Option (Text word_max) → Type 0
+Reads test s None = test ≡ false
+Reads test s (Some t) = (test ≡ true) × (take t.size t.bytes ≡ s)
 
--- s was written at the place `at`, where it fits; else the place after it is past the end
-pub record Put (at : ℕ) (s before after : List ℕ) (end : ℕ) : Type 0 where
-  pub same_room : length after ≡ length before
-  pub fits : at + length s ≤ length before → Wrote at s before after end
-  pub past : length before < at + length s → length before < end
+abbrev pub said : Answer → ℕ × List ℕ
+said a = (outcome_number a.outcome, take a.lent.size a.lent.bytes)
 
--- a text has been written from the front on, up to its last part
-pub record SoFar (text rest before after : List ℕ) (end : ℕ) : Type 0 where
-  pub front : List ℕ
-  pub parts : text ≡ front ++ rest
-  pub put : Put 0 front before after end
+-- the number and what is lent after it, likewise
+abbrev pub Answers : Bool → ℕ × List ℕ → Option Answer → Type 0
+Answers test a None = test ≡ false
+Answers test a (Some b) = (test ≡ true) × (said b ≡ a)
+
+-- the call of a line with the words of one
+abbrev pub Asks : List ℕ → Option Named → Type 0
+Asks line None = words_right line (call_named (word_at line 1) calls) ≡ false
+Asks line (Some c) = (words_right line (call_named (word_at line 1) calls) ≡ true) × (call_named (word_at line 1) calls ≡ place_of c)
+
+-- the text of a line that is no comment: the answer's, or that it is refused
+abbrev pub Says : List ℕ → Option Answer → Type 0
+Says line None = (number : ℕ) → is_comment line ≡ false → case_text line number ≡ refused_text number
+Says line (Some a) = (number : ℕ) → is_comment line ≡ false → case_text line number ≡ answer_text (word_at line 0) (said a)

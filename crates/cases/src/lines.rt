@@ -1,128 +1,112 @@
 // One line: what it says. specs/Line.antt has the text.
-ghost use Rattle.std.specs.Prelude.{◌≡◌, ◌≤◌, ◌<◌, length, get_or, take};
-ghost use Rattle.cases.specs.Calls.{calls, call_count, no_call};
-ghost use Rattle.cases.specs.Line.{answer_text, is_comment, words_right, string_at, asked_text, case_text};
-ghost use Rattle.cases.specs.Parts.{Holds, Put};
-ghost use Rattle.cases.specs.Strings.{word_max, is_bytes, bytes_in};
-ghost use Rattle.cases.specs.Run.{run_max};
+ghost use Rattle.std.specs.Prelude.{◌≡◌, ◌≤◌};
+ghost use Rattle.wording.specs.Writer.{Adds};
+ghost use Rattle.cases.specs.Named.{entry};
+ghost use Rattle.cases.specs.Line.{answer_text, is_comment, string_at, strings_right, answer_of, case_text};
+ghost use Rattle.cases.specs.Parts.{Reads, Asks, Answers, Says, said};
+ghost use Rattle.cases.specs.Strings.{is_bytes, bytes_in};
 
-use crate::calls::{CALLS, call, call_named, strings_of};
-use crate::strings::{Held, WORD_MAX, lend, read_word};
+use crate::calls::Call;
+use crate::strings::{WORD_MAX, lend, read_word};
 use crate::words::{no_empty_word, spaces, word};
-use octets::strings::part;
-use wording::writing::{put_byte, put_decimal, put_line, put_shown, put_string};
+use refusals::Refusal;
+use wording::text::Text;
+use wording::writing::Writer;
+
+// What a call answered, and what was lent to it as it is then.
+#[derive(Drop)]
+pub(crate) struct Answer {
+    pub(crate) outcome: Result<(), Refusal>,
+    pub(crate) lent: Text<WORD_MAX>,
+}
 
 // An empty line, or one that begins with `#`.
 fn is_comment(line: &[u8]) -> bool
     ensures { result ≡ is_comment line.now }
 {
-    if line.len() == 0 {
-        return true;
-    }
-    line[0] == b'#'
+    matches!(line.first(), None | Some(b'#'))
 }
 
-fn words_right(line: &[u8], call: usize) -> bool
-    ensures { result ≡ words_right line.now call }
+// The call that a line asks for, where it has the words of one.
+fn asked(line: &[u8]) -> Option<Call>
+    ensures { Asks line.now result }
 {
-    let last = spaces(line);
-    if (call < CALLS) & (last == strings_of(call) + 2) {
-        return no_empty_word(line, last);
+    let call = Call::named(word(line, 1))?;
+    if spaces(line) != call.strings() + 2 {
+        return None;
     }
-    false
+    if !no_empty_word(line) {
+        return None;
+    }
+    Some(call)
 }
 
 // What the string of that number, of n, stands for; the others are empty.
-fn string_at(line: &[u8], n: usize, number: usize) -> Held
+fn string_at(line: &[u8], n: usize, number: usize) -> Option<Text<WORD_MAX>>
     requires { n ≤ 5 }
-    ensures { Holds (is_bytes (string_at line.now n number)) (bytes_in (string_at line.now n number)) result.right result.size result.bytes }
+    ensures { Reads (is_bytes (string_at line.now n number)) (bytes_in (string_at line.now n number)) result }
 {
     if number < n {
         return read_word(word(line, number + 2));
     }
-    read_word(part(line, 0, 0))
+    read_word(b"")
 }
 
-// The texts, each at a place of the room.
-
-fn put_answer(out: &mut [u8], at: usize, name: &[u8], number: u8, lent: &[u8]) -> usize
-    requires { length out.old ≤ run_max }
-    ensures { Put at (answer_text name.now (number, lent.now)) out.old out.new result }
+// The answer to the call of a line with its words, where each of them is right.
+fn called(line: &[u8], call: Call) -> Option<Answer>
+    ensures { Answers (strings_right line.now (entry call)) (answer_of line.now (entry call)) result }
 {
-    let space_at = put_string(out, at, name);
-    let number_at = put_byte(out, space_at, b' ');
-    let other_at = put_decimal(out, number_at, number as u64);
-    let lent_at = put_byte(out, other_at, b' ');
-    let end_at = put_shown(out, lent_at, lent, false);
-    put_byte(out, end_at, b'\n')
-}
-
-// The answer to a call, on up to five strings and what it is lent.
-fn put_called(
-    out: &mut [u8],
-    at: usize,
-    name: &[u8],
-    asked: usize,
-    a: &[u8],
-    b: &[u8],
-    c: &[u8],
-    d: &[u8],
-    e: &[u8],
-    size: usize,
-    lent: [u8; WORD_MAX],
-) -> usize
-    requires { (length out.old ≤ run_max) × (asked < call_count) × (size ≤ word_max) × (length lent ≡ word_max) }
-    ensures { Put at (answer_text name.now ((get_or calls asked no_call).gives a.now b.now c.now d.now e.now (take size lent)))
-        out.old out.new result }
-{
-    let mut room = lent;
-    let number = call(asked, a, b, c, d, e, &mut room[..size]);
-    put_answer(out, at, name, number, part(&room, 0, size))
-}
-
-// A line with the words of a call.
-fn put_asked(out: &mut [u8], at: usize, line: &[u8], number: usize, asked: usize) -> usize
-    requires { (length out.old ≤ run_max) × (asked < call_count) }
-    ensures { Put at (asked_text line.now number (get_or calls asked no_call)) out.old out.new result }
-{
-    let n = strings_of(asked);
-    let a = string_at(line, n, 0);
-    let b = string_at(line, n, 1);
-    let c = string_at(line, n, 2);
-    let d = string_at(line, n, 3);
-    let e = string_at(line, n, 4);
+    let n = call.strings();
+    let a = string_at(line, n, 0)?;
+    let b = string_at(line, n, 1)?;
+    let c = string_at(line, n, 2)?;
+    let d = string_at(line, n, 3)?;
+    let e = string_at(line, n, 4)?;
     // what is lent is a block where there is one string
-    let l = lend(n == 1, word(line, n + 2));
-    let lent = l.bytes;
-    if a.right & b.right & c.right & d.right & e.right & l.right {
-        return put_called(
-            out,
-            at,
-            word(line, 0),
-            asked,
-            part(&a.bytes, 0, a.size),
-            part(&b.bytes, 0, b.size),
-            part(&c.bytes, 0, c.size),
-            part(&d.bytes, 0, d.size),
-            part(&e.bytes, 0, e.size),
-            l.size,
-            lent,
-        );
-    }
-    put_line(out, at, b"refused", number as u64)
+    let Text { size, bytes } = lend(n == 1, word(line, n + 2))?;
+    let mut lent = bytes;
+    let outcome = call.run(
+        a.as_bytes(),
+        b.as_bytes(),
+        c.as_bytes(),
+        d.as_bytes(),
+        e.as_bytes(),
+        &mut lent[..size],
+    );
+    Some(Answer {
+        outcome,
+        lent: Text { size, bytes: lent },
+    })
+}
+
+// The answer to a line with the words of a call.
+fn answered(line: &[u8]) -> Option<Answer>
+    ensures { Says line.now result }
+{
+    let call = asked(line)?;
+    called(line, call)
+}
+
+fn put_answer(writer: &mut Writer<'_>, name: &[u8], answer: &Answer) -> Result<(), Refusal>
+    ensures { Adds (answer_text name.now (said answer.now)) writer.old writer.new result }
+{
+    writer.put_string(name)?;
+    writer.put_byte(b' ')?;
+    writer.put_decimal(refusals::number(answer.outcome) as u64)?;
+    writer.put_byte(b' ')?;
+    writer.put_shown(answer.lent.as_bytes(), false)?;
+    writer.put_byte(b'\n')
 }
 
 // The text of a line, of that number from 1.
-pub(crate) fn put_case(out: &mut [u8], at: usize, line: &[u8], number: usize) -> usize
-    requires { length out.old ≤ run_max }
-    ensures { Put at (case_text line.now number) out.old out.new result }
+pub(crate) fn put_case(writer: &mut Writer<'_>, line: &[u8], number: usize) -> Result<(), Refusal>
+    ensures { Adds (case_text line.now number) writer.old writer.new result }
 {
     if is_comment(line) {
-        return at;
+        return Ok(());
     }
-    let asked = call_named(word(line, 1));
-    if words_right(line, asked) {
-        return put_asked(out, at, line, number, asked);
+    match answered(line) {
+        Some(answer) => put_answer(writer, word(line, 0), &answer),
+        None => writer.put_line(b"refused", number as u64),
     }
-    put_line(out, at, b"refused", number as u64)
 }

@@ -11,8 +11,7 @@ const ROOM: usize = 1048577;
 fn run_input(rt: &HostRuntime, room: [u8; ROOM]) -> io::Result<()> {
     let mut input = room;
     let n = read_full(&mut rt.stdin(), &mut input)?;
-    let text = cases::run(&input[..n]);
-    rt.write_all(octets::strings::part(&text.bytes, 0, text.size))
+    rt.write_all(cases::run(&input[..n]).as_bytes())
 }
 
 fn main(rt: HostRuntime) -> io::Result<()> {

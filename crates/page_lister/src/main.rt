@@ -9,8 +9,5 @@ const ROOM: usize = 4097;
 fn main(rt: HostRuntime) -> io::Result<()> {
     let mut page = [0u8; ROOM];
     let n = read_full(&mut rt.stdin(), &mut page)?;
-    let text = page_text::list_page(&page[..n]);
-    let size = text.size;
-    let bytes = text.bytes;
-    rt.write_all(&bytes[..size])
+    rt.write_all(page_text::list_page(&page[..n]).as_bytes())
 }

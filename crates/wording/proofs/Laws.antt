@@ -19,7 +19,7 @@ use Rattle.wording.specs.Decimal.{decimal, value_of}
 use Rattle.wording.specs.Hex.{is_hex_digit, digit_of, is_hex, hex_byte, hex_bytes, digits_of, hex_read}
 use Rattle.wording.specs.Lines.{space, newline, line, together}
 use Rattle.wording.specs.Writing.{nowhere, put_at, put_all, Answer, writer_put, writer_puts}
-use Rattle.wording.specs.Laws.{DecimalReads, DecimalDigits, NoZeroBefore, LineReads, DigitsLength, ThereAndBack, ReadTestsRise, ReadUnique, NowhereStays, LastTells, said, WriterSays, WriterTells, WriterUnique, PutUnique}
+use Rattle.wording.specs.Laws.{DecimalReads, DecimalDigits, NoZeroBefore, LineReads, DigitsLength, ThereAndBack, ReadTestsRise, ReadUnique, NowhereStays, LastTells, put_said, WriterSays, WriterTells, WriterUnique, PutUnique}
 use Rattle.wording.proofs.DecimalDigits.{decimal_value, decimal_are, decimal_first}
 use Rattle.wording.proofs.Digits.{digit_counts, length-digits_of, read_done}
 use Rattle.wording.proofs.Puts.{writer-done, writer-not, writer_wrote, puts_fit, puts-past}
@@ -127,11 +127,11 @@ last_tells ss at room within h = go (leb (at + length (together ss)) (length roo
 pub writer_says : WriterSays
 writer_says s at room = go (leb (at + length s) (length room)) refl
   where
-    go : (t : Bool) → leb (at + length s) (length room) ≡ t → said (writer_put s (at, room)) ≡ put_at at s room
-    go true e = ap said (writer-done s at room (leb-true (at + length s) (length room) e))
+    go : (t : Bool) → leb (at + length s) (length room) ≡ t → put_said (writer_put s (at, room)) ≡ put_at at s room
+    go true e = ap put_said (writer-done s at room (leb-true (at + length s) (length room) e))
     go false e =
         let long = leb-false (at + length s) (length room) e in
-        ap said (writer-not s at room long) ∙ sym (put-not at s room long)
+        ap put_said (writer-not s at room long) ∙ sym (put-not at s room long)
 
 pub writer_tells : WriterTells
 writer_tells ss at room within = go (leb (at + length (together ss)) (length room)) refl

@@ -56,12 +56,12 @@ LastTells =
     (ss : List (List ℕ)) (at : ℕ) (room : List ℕ) → at ≤ length room → length room < nowhere → (put_all at ss room).0 ≡ (put_at at (together ss) room).0
 
 -- what a writer answers to a text is what `put_at` says: the place after it, or that there is none
-abbrev pub said : Answer → Place
-said (Ok u, w) = w
-said (Err e, w) = (nowhere, w.1)
+abbrev pub put_said : Answer → Place
+put_said (Ok u, w) = w
+put_said (Err e, w) = (nowhere, w.1)
 
 abbrev pub WriterSays : Type 0
-WriterSays = (s : List ℕ) (at : ℕ) (room : List ℕ) → said (writer_put s (at, room)) ≡ put_at at s room
+WriterSays = (s : List ℕ) (at : ℕ) (room : List ℕ) → put_said (writer_put s (at, room)) ≡ put_at at s room
 
 -- texts put one after the other, up to the first that does not fit, are all of them put at once, or refused with what fits of them
 abbrev pub WriterTells : Type 0

@@ -1,48 +1,42 @@
--- `cases::put_cases` meets its contract: what is written and the text of what is left make the whole.
+-- `cases::put_cases` meets its contract: after some turns the text of the lines so far is written.
 -- Assumes nothing.
-use mathlib.Core.Path.{refl, ap, ◌∙◌}
-use Prim.Native.Nat.{◌+◌, ◌*◌, ◌≤◌}
-use native.Mathlib.Omega.{arith}
-use lib.ListN.{length}
-use Rattle.octets.proofs.Tests.{part_short}
-use Rattle.cases.specs.Run.{lines_text, input_max}
-use Rattle.cases.proofs.Splitting.{up_to_short}
-use Rattle.cases.proofs.Written.{far_none, far_more, far-all}
-use Rattle.cases.proofs.Along.{text_turn, text_end}
-use Rattle.cases.proofs.put_cases.Goals.{After-until-size}
+use lib.Dec.{eqb}
+use Rattle.std.proofs.Common.{rules, tests}
+use Rattle.std.proofs.lemmas.Iterator.Consumers.{YieldsList-at, YieldsList-end, YieldsList-from_enumerate}
+use Rattle.std.proofs.lemmas.Iterator.Splits.{YieldsList-from_slice_split}
+use Rattle.std.proofs.lemmas.Result.{err_from_is_err_and}
+use Rattle.wording.specs.Lines.{newline}
+use Rattle.wording.proofs.Puts.{adds_none, adds_then, adds_stop}
+use Rattle.cases.proofs.Numbered.{numbered_turn, numbered_parted, lines_numbered}
 use Rattle.cases.proofs.put_cases.Goals as goal
 
--- a line is no longer than the input, so that the place after it and the next line's number are small
+pub loop-i-init : goal.loop-i-init
+loop-i-init c = adds_none
 
-module _ (c : After-until-size) where
-  line-short : c.until-size.result ≤ length c.args.input.now
-  line-short =
-      let input = c.args.input.now in
-      omega
-      (arith, c.until-size.ensures, up_to_short 10 c.part-rest.result.now, ap length c.part-rest.ensures, part_short input c.loop-at.at (length input))
+pub loop-i-preserved : goal.loop-i-preserved
+loop-i-preserved c = rw (numbered_turn c.loop-i.yielded _) (adds_then c.loop-i.invariant c.in_ok-put_case.ensures)
 
-  next : c.loop-at.at + c.until-size.result + 1 ≤ 2 * input_max
-  next = omega (arith, line-short, c.requires.1, c.loop-at-test.true)
-
-pub loop-at-init : goal.loop-at-init
-unfolding lines_text
-loop-at-init c = (refl, omega arith, far_none _ _)
-
-pub overflow_add-at : goal.overflow_add-at
-overflow_add-at c = omega (arith, next (goal.at.overflow_add-at c).After-until-size)
-
-pub overflow_add-at-in-loop-at : goal.overflow_add-at-in-loop-at
-overflow_add-at-in-loop-at c = omega (arith, next (goal.at.overflow_add-at-in-loop-at c).After-until-size)
-
-pub loop-at-preserved : goal.loop-at-preserved
-loop-at-preserved c = (
-  c.put_case-end.ensures.same_room ∙ c.loop-at.invariant.0,
-  omega (arith, c.loop-at.invariant.1),
-  far_more _
-      (rw (← text_turn c.args.input.now c.loop-at.at c.loop-at.number c.until-size.result c.part-rest.ensures c.until-size.ensures c.part.ensures) c.loop-at.invariant.2)
-      c.put_case-end.ensures,
-)
+pub returns-in_err-put_case : goal.returns-in_err-put_case
+returns-in_err-put_case c =
+    let p = err_from_is_err_and c.from_residual.result c.from_residual.ensures.1 in
+    let parted =
+    numbered_parted
+    (YieldsList-at c.into_iter-i-iterator.ensures.into_iter_gives
+    (YieldsList-from_enumerate
+    (YieldsList-at c.enumerate-i-items.ensures.source
+    (YieldsList-from_slice_split _ (λ b. eqb b newline) c.args.input.now c.split.ensures.rest c.split.ensures.done c.split.ensures.closure (λ x r q k. search (rules, tests))))
+    c.enumerate-i-items.ensures.count))
+    c.loop-i.yielded c.loop-i.yielded_by (c.in-Some.i, c.in-Some.line) c.next.new.self c.in-Some.ensures.steps in
+    rw (p.1, p.2, lines_numbered c.args.input.now, parted.1) (adds_then c.loop-i.invariant (adds_stop parted.0 c.in_err-put_case.ensures))
 
 pub returns : goal.returns
 returns c =
-    far-all (rw (← text_end c.args.input.now c.loop-at.at c.loop-at.number c.loop-at-test.false) c.loop-at.invariant.2)
+    let all =
+    YieldsList-end
+    (YieldsList-at c.into_iter-i-iterator.ensures.into_iter_gives
+    (YieldsList-from_enumerate
+    (YieldsList-at c.enumerate-i-items.ensures.source
+    (YieldsList-from_slice_split _ (λ b. eqb b newline) c.args.input.now c.split.ensures.rest c.split.ensures.done c.split.ensures.closure (λ x r q k. search (rules, tests))))
+    c.enumerate-i-items.ensures.count))
+    c.loop-i.yielded _ c.loop-i.yielded_by _ c.next.new.self c.in-None.is c.next.ensures.steps in
+    rw (lines_numbered c.args.input.now, ← all.0) c.loop-i.invariant

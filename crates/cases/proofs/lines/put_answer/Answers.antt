@@ -1,29 +1,42 @@
--- `cases::lines::put_answer` meets its contract: six texts one after the other.
+-- `cases::lines::put_answer` meets its contract: each part after the one before it.
 -- Assumes nothing.
-use mathlib.Core.Bool.{false}
-use mathlib.Core.List.{◌++◌}
-use Rattle.wording.specs.Ascii.{ascii}
-use Rattle.wording.specs.Decimal.{decimal}
-use Rattle.wording.specs.Hex.{digits_shown}
-use Rattle.cases.specs.Parts.{Put}
+use Rattle.std.proofs.lemmas.Result.{err_from_is_err_and}
+use Rattle.wording.proofs.Puts.{adds, adds_then, adds_stop}
 use Rattle.cases.specs.Line.{answer_text}
-use Rattle.cases.proofs.Written.{put_one, put_more}
-use Rattle.cases.proofs.lines.put_answer.Goals.{After-put_byte-lent_at}
 use Rattle.cases.proofs.lines.put_answer.Goals as goal
 
--- the first four of them
+pub returns-in_err-put_string : goal.returns-in_err-put_string
+unfolding answer_text
+returns-in_err-put_string c =
+    let p = err_from_is_err_and c.from_residual.result c.from_residual.ensures.1 in
+    rw (p.1, p.2) (adds_stop _ (adds_stop _ (adds_stop _ (adds_stop _ (adds_stop _ (adds c.in_err-put_string.ensures))))))
 
-front : (c : After-put_byte-lent_at)
-    → Put c.args.at (c.args.name.now ++ ascii " " ++ decimal c.args.number ++ ascii " ") c.args.out.now c.put_byte-lent_at.new.out c.put_byte-lent_at.result
-front c =
-    put_more (ascii " ") c.requires
-    (put_more (decimal c.args.number) c.requires
-    (put_more (ascii " ") c.requires (put_one c.args.at c.args.name.now c.args.out.now c.requires c.put_string-space_at.ensures) c.put_byte-number_at.ensures)
-    c.put_decimal-other_at.ensures)
-    c.put_byte-lent_at.ensures
+pub returns-in_err-put_byte : goal.returns-in_err-put_byte
+unfolding answer_text
+returns-in_err-put_byte c =
+    let p = err_from_is_err_and c.from_residual-in_err-put_byte.result c.from_residual-in_err-put_byte.ensures.1 in
+    rw (p.1, p.2) (adds_stop _ (adds_stop _ (adds_stop _ (adds_stop _ (adds_then (adds c.in_ok-put_string.ensures) (adds c.in_err-put_byte.ensures))))))
+
+pub returns-in_err-put_decimal : goal.returns-in_err-put_decimal
+unfolding answer_text
+returns-in_err-put_decimal c =
+    let p = err_from_is_err_and c.from_residual-in_err-put_decimal.result c.from_residual-in_err-put_decimal.ensures.1 in
+    rw (p.1, p.2, ← c.number.ensures) (adds_stop _ (adds_stop _ (adds_stop _ (adds_then (adds_then (adds c.in_ok-put_string.ensures) (adds c.in_ok-put_byte.ensures)) (adds c.in_err-put_decimal.ensures)))))
+
+pub returns-in_err-put_byte-2 : goal.returns-in_err-put_byte-2
+unfolding answer_text
+returns-in_err-put_byte-2 c =
+    let p = err_from_is_err_and c.from_residual-in_err-put_byte-2.result c.from_residual-in_err-put_byte-2.ensures.1 in
+    rw (p.1, p.2, ← c.number.ensures) (adds_stop _ (adds_stop _ (adds_then (adds_then (adds_then (adds c.in_ok-put_string.ensures) (adds c.in_ok-put_byte.ensures)) (adds c.in_ok-put_decimal.ensures)) (adds c.in_err-put_byte-2.ensures))))
+
+pub returns-in_err-put_shown : goal.returns-in_err-put_shown
+unfolding answer_text
+returns-in_err-put_shown c =
+    let p = err_from_is_err_and c.from_residual-in_err-put_shown.result c.from_residual-in_err-put_shown.ensures.1 in
+    rw (p.1, p.2, ← c.number.ensures, ← c.as_bytes.ensures) (adds_stop _ (adds_then (adds_then (adds_then (adds_then (adds c.in_ok-put_string.ensures) (adds c.in_ok-put_byte.ensures)) (adds c.in_ok-put_decimal.ensures)) (adds c.in_ok-put_byte-2.ensures)) (adds c.in_err-put_shown.ensures)))
 
 pub returns : goal.returns
 unfolding answer_text
 returns c =
-    put_more (ascii "\n") c.requires (put_more (digits_shown false c.args.lent.now) c.requires (front (goal.at.returns c).After-put_byte-lent_at) c.put_shown-end_at.ensures)
-    c.put_byte.ensures
+    rw (← c.number.ensures, ← c.as_bytes.ensures)
+    (adds_then (adds_then (adds_then (adds_then (adds_then (adds c.in_ok-put_string.ensures) (adds c.in_ok-put_byte.ensures)) (adds c.in_ok-put_decimal.ensures)) (adds c.in_ok-put_byte-2.ensures)) (adds c.in_ok-put_shown.ensures)) (adds c.put_byte-3.ensures))

@@ -1,8 +1,18 @@
--- `cases::strings::lend` meets its contract: a block is read, and a room is the front of one that is full of A5h.
+-- `cases::strings::lend` meets its contract.
 -- Assumes nothing.
-use Rattle.cases.proofs.Held.{lent-room}
+use mathlib.Core.Path.{ap, ◌∙◌}
+use lib.ListN.{take}
+use Rattle.cases.specs.Strings.{word_max, lent_room}
+use Rattle.cases.proofs.Held.{room_small, take_room}
 use Rattle.cases.proofs.strings.lend.Goals as goal
+
+pub invariant_of-result : goal.invariant_of-result
+invariant_of-result c = record { within = room_small c.args.word.now c.in_ok-size.ensures.0 c.in_ok-size.ensures.1 }
 
 pub returns : goal.returns
 returns c =
-    rw c.if-block.false (lent-room c.args.word.now c.room_in-size.result _ c.word_room-bytes.ensures c.room_in-size.ensures c.if-size-gt-WORD_MAX.false)
+    let size = room_small c.args.word.now c.in_ok-size.ensures.0 c.in_ok-size.ensures.1 in
+    rw c.if-block.false (
+      c.in_ok-size.ensures.0,
+      ap (take c.in_ok-size.size) c.full_room-bytes.ensures ∙ take_room c.in_ok-size.size word_max size ∙ ap lent_room c.in_ok-size.ensures.1,
+    )

@@ -1,29 +1,18 @@
--- `cases::strings::room_in` meets its contract: what is read so far and what is left make the number.
+-- `cases::strings::room_in` meets its contract.
 -- Assumes nothing.
 use mathlib.Core.Path.{sym, ◌∙◌}
-use native.Mathlib.Omega.{arith}
-use Rattle.octets.proofs.Tests.{all_turn}
-use Rattle.wording.specs.Decimal.{is_decimal_digit}
-use Rattle.cases.proofs.Held.{value_turn, room_large, room_other, room_read}
+use borrow.Author.Tests.{eqb-true, eqb-false}
+use Rattle.cases.proofs.Held.{room_empty, room_large, room_read, room_other}
 use Rattle.cases.proofs.strings.room_in.Goals as goal
 
-pub returns-then-n-gt-WORD_MAX : goal.returns-then-n-gt-WORD_MAX
-returns-then-n-gt-WORD_MAX c =
-    room_large c.args.word.now c.loop-i.n c.loop-i.i c.loop-i.invariant.2 c.loop-i.invariant.3 c.if-n-gt-WORD_MAX.true
+pub returns-then-is_empty : goal.returns-then-is_empty
+returns-then-is_empty c = room_empty c.args.word.now (eqb-true _ 0 (sym c.is_empty.ensures ∙ c.if-is_empty.true))
 
-pub returns-then-not-is_decimal : goal.returns-then-not-is_decimal
-returns-then-not-is_decimal c =
-    room_other c.args.word.now c.loop-i.n c.loop-i.i c.loop-i.invariant.2 c.loop-i.invariant.3 c.loop-i-test.true (sym c.is_decimal.ensures ∙ c.if-not-is_decimal.true)
+pub returns-in_err-n : goal.returns-in_err-n
+returns-in_err-n c = rw c.from_residual.ensures (room_other c.args.word.now (eqb-false _ 0 (sym c.is_empty.ensures ∙ c.if-is_empty.false)) c.in_err-n.ensures)
 
-pub loop-i-preserved : goal.loop-i-preserved
-loop-i-preserved c =
-    let w = c.args.word.now in (
-      omega arith,
-      omega (arith, c.digit_in.ensures.1, c.if-n-gt-WORD_MAX.false),
-      rw c.digit_in.ensures.0 (value_turn w c.loop-i.n c.loop-i.i c.loop-i.invariant.2 c.loop-i.invariant.3 c.loop-i-test.true),
-      c.loop-i.invariant.3 ∙ all_turn is_decimal_digit w c.loop-i.i 0 c.loop-i-test.true (sym c.is_decimal.ensures ∙ c.if-not-is_decimal.false),
-    )
+pub returns-then-n : goal.returns-then-n
+returns-then-n c = room_large c.args.word.now _ c.in_ok-n.ensures c.if-n.true
 
 pub returns : goal.returns
-returns c =
-    room_read c.args.word.now c.loop-i.n c.loop-i.i c.loop-i.invariant.2 c.loop-i.invariant.3 c.loop-i-test.false
+returns c = room_read c.args.word.now _ c.in_ok-n.ensures c.if-n.false

@@ -1,30 +1,20 @@
--- `cases::words::no_empty_word` meets its contract: what is left of the words at i decides.
+-- `cases::words::no_empty_word` meets its contract.
 -- Assumes nothing.
-use mathlib.Core.Path.{sym, ◌∙◌}
-use mathlib.Core.List.{[]}
-use native.Mathlib.Omega.{arith}
-use Rattle.octets.proofs.Tests.{all-stop, all_turn, all_end}
-use Rattle.cases.specs.Words.{words_of, word_at, some_bytes}
-use Rattle.cases.proofs.Splitting.{no_bytes, some_bytes_lem}
+use mathlib.Core.Path.{ap, ◌∙◌}
+use lib.Dec.{eqb}
+use Rattle.std.proofs.Common.{rules, tests}
+use Rattle.std.proofs.lemmas.Iterator.Search.{all_from_yields_List}
+use Rattle.std.proofs.lemmas.Iterator.Splits.{YieldsList-from_slice_split}
+use Rattle.octets.specs.Tests.{all}
+use Rattle.wording.specs.Lines.{space}
+use Rattle.cases.specs.Words.{some_bytes}
+use Rattle.cases.proofs.Splitting.{split_parts, all_list}
 use Rattle.cases.proofs.words.no_empty_word.Goals as goal
-
-pub returns-then-word-eq0 : goal.returns-then-word-eq0
-returns-then-word-eq0 c =
-    let line = c.args.line.now in
-    sym
-    (c.loop-i.invariant.1
-    ∙ all-stop some_bytes (words_of line) c.loop-i.i [] (omega (arith, c.requires.0, c.loop-i-test.true))
-    (no_bytes (word_at line c.loop-i.i) _ c.word.ensures c.if-word-eq0.true))
-
-pub loop-i-preserved : goal.loop-i-preserved
-loop-i-preserved c =
-    let line = c.args.line.now in (
-      omega arith,
-      c.loop-i.invariant.1
-          ∙ all_turn some_bytes (words_of line) c.loop-i.i [] (omega (arith, c.requires.0, c.loop-i-test.true))
-          (some_bytes_lem (word_at line c.loop-i.i) _ c.word.ensures c.if-word-eq0.false),
-    )
 
 pub returns : goal.returns
 returns c =
-    sym (c.loop-i.invariant.1 ∙ all_end some_bytes (words_of c.args.line.now) c.loop-i.i (omega (arith, c.requires.0, c.loop-i-test.false)))
+    all_from_yields_List some_bytes _ _ c.all.result c.all.ensures.ran
+    (YieldsList-from_slice_split _ (λ b. eqb b space) c.args.line.now c.split.ensures.rest c.split.ensures.done c.split.ensures.closure (λ x r q k. search (rules, tests)))
+    (λ x b q k. search (rules, tests))
+    ∙ all_list some_bytes _
+    ∙ ap (all some_bytes) (split_parts space c.args.line.now)

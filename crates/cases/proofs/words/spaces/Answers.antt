@@ -1,16 +1,12 @@
--- `cases::words::spaces` meets its contract: what was counted and what is left make the whole.
+-- `cases::words::spaces` meets its contract.
 -- Assumes nothing.
-use native.Mathlib.Omega.{arith}
-use Rattle.cases.proofs.Splitting.{parts_turn, parts_end}
+use mathlib.Core.Path.{◌≡◌, ◌∙◌}
+use lib.Dec.{eqb}
+use Rattle.std.specs.List.{count_by}
+use Rattle.std.proofs.Common.{rules}
+use Rattle.wording.specs.Lines.{space}
+use Rattle.cases.proofs.Splitting.{count_parts}
 use Rattle.cases.proofs.words.spaces.Goals as goal
 
-pub loop-i-preserved : goal.loop-i-preserved
-loop-i-preserved c = (
-  omega arith,
-  omega (arith, c.one_if_space-n.ensures.1),
-  omega (arith, c.one_if_space-n.ensures.0, c.loop-i.invariant.2, parts_turn c.args.line.now c.loop-i.i c.loop-i-test.true),
-)
-
 pub returns : goal.returns
-returns c =
-    omega (arith, c.loop-i.invariant.2, parts_end c.args.line.now c.loop-i.i c.loop-i-test.false)
+returns c = let n : c.count.result ≡ count_by (λ x. eqb x space) c.args.line.now = search rules in n ∙ count_parts space c.args.line.now
