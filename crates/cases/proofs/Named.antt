@@ -14,7 +14,7 @@ use Rattle.octets.specs.Same.{same}
 use Rattle.cases.specs.declared.calls.Call.{Call as Named}
 use Rattle.cases.specs.declared.calls.Call.TheVariants.{Encrypt, Decrypt, EncryptRounds, DecryptRounds, CcmEncrypt, GcmEncrypt, CcmDecrypt, GcmDecrypt, Wrap, Unwrap}
 use Rattle.cases.specs.Calls.{Call, calls, call_count, call_named}
-use Rattle.cases.specs.Named.{place_of, place_or, named_place, named_of, entry}
+use Rattle.cases.specs.Named.{call_place, place_or, named_place, named_of, entry}
 
 abbrev pub Entry : Type 0
 Entry = Bor (List ℕ) × Named
@@ -24,7 +24,7 @@ abbrev pub Beside : ℕ → List Entry → List Call → Type 0
 Beside i [] [] = Unit {0}
 Beside i [] (c ∷ cs) = ⊥
 Beside i (e ∷ es) [] = ⊥
-Beside i (e ∷ es) (c ∷ cs) = (e.0.now ≡ c.name) × (place_of e.1 ≡ i) × Beside (suc i) es cs
+Beside i (e ∷ es) (c ∷ cs) = (e.0.now ≡ c.name) × (call_place e.1 ≡ i) × Beside (suc i) es cs
 
 pub found_at : (n : List ℕ) (i : ℕ) (es : List Entry) (cs : List Call) → Beside i es cs → place_or (i + length cs) (named_of n es) ≡ i + call_named n cs
 unfolding call_named named_of
@@ -43,7 +43,7 @@ found_at n i (e ∷ es) (c ∷ cs) (name, place, rest) = go (same c.name n) refl
 pub named_by : (n : List ℕ) (es : List Entry) {r : Option Named} → r ≡ named_of n es → Beside 0 es calls → named_place r ≡ call_named n calls
 named_by n es e b = ap named_place e ∙ found_at n 0 es calls b ∙ zero-add (call_named n calls)
 
-pub place_small : (c : Named) → place_of c < call_count
+pub place_small : (c : Named) → call_place c < call_count
 place_small Encrypt = lit< tt
 place_small Decrypt = lit< tt
 place_small EncryptRounds = lit< tt

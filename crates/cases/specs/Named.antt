@@ -8,28 +8,28 @@ use Rattle.cases.specs.declared.calls.Call.{Call as Named}
 use Rattle.cases.specs.declared.calls.Call.TheVariants.{Encrypt, Decrypt, EncryptRounds, DecryptRounds, CcmEncrypt, GcmEncrypt, CcmDecrypt, GcmDecrypt, Wrap, Unwrap}
 use Rattle.cases.specs.Calls.{Call, calls, call_count, no_call}
 
-abbrev pub place_of : Named → ℕ
-place_of Encrypt = 0
-place_of Decrypt = 1
-place_of EncryptRounds = 2
-place_of DecryptRounds = 3
-place_of CcmEncrypt = 4
-place_of GcmEncrypt = 5
-place_of CcmDecrypt = 6
-place_of GcmDecrypt = 7
-place_of Wrap = 8
-place_of Unwrap = 9
+abbrev pub call_place : Named → ℕ
+call_place Encrypt = 0
+call_place Decrypt = 1
+call_place EncryptRounds = 2
+call_place DecryptRounds = 3
+call_place CcmEncrypt = 4
+call_place GcmEncrypt = 5
+call_place CcmDecrypt = 6
+call_place GcmDecrypt = 7
+call_place Wrap = 8
+call_place Unwrap = 9
 
 -- `none` for a name that is none's
 abbrev pub place_or : ℕ → Option Named → ℕ
 place_or none None = none
-place_or none (Some c) = place_of c
+place_or none (Some c) = call_place c
 
 abbrev pub named_place : Option Named → ℕ
 named_place = place_or call_count
 
 abbrev pub entry : Named → Call
-entry c = get_or calls (place_of c) no_call
+entry c = get_or calls (call_place c) no_call
 
 -- the call that has the name in a table of the code
 unfoldable pub named_of : List ℕ → List (Bor (List ℕ) × Named) → Option Named

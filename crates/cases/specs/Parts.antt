@@ -6,15 +6,15 @@ use Rattle.wording.specs.declared.text.Text.{Text}
 use Rattle.cases.specs.Strings.{word_max}
 use Rattle.cases.specs.Words.{word_at}
 use Rattle.cases.specs.Calls.{calls, call_named}
-use Rattle.cases.specs.Named.{place_of}
+use Rattle.cases.specs.Named.{call_place}
 use Rattle.cases.specs.Line.{is_comment, words_right, answer_text, refused_text, case_text}
 use Rattle.cases.specs.declared.calls.Call.{Call as Named}
 use Rattle.cases.specs.declared.lines.Answer.{Answer}
 
 -- s where `test` holds, and nothing where it does not
-abbrev pub Reads : Bool → List ℕ → Option (Text word_max) → Type 0
-Reads test s None = test ≡ false
-Reads test s (Some t) = (test ≡ true) × (take t.size t.bytes ≡ s)
+abbrev pub Holds : Bool → List ℕ → Option (Text word_max) → Type 0
+Holds test s None = test ≡ false
+Holds test s (Some t) = (test ≡ true) × (take t.size t.bytes ≡ s)
 
 abbrev pub said : Answer → ℕ × List ℕ
 said a = (outcome_number a.outcome, take a.lent.size a.lent.bytes)
@@ -27,7 +27,7 @@ Answers test a (Some b) = (test ≡ true) × (said b ≡ a)
 -- the call of a line with the words of one
 abbrev pub Asks : List ℕ → Option Named → Type 0
 Asks line None = words_right line (call_named (word_at line 1) calls) ≡ false
-Asks line (Some c) = (words_right line (call_named (word_at line 1) calls) ≡ true) × (call_named (word_at line 1) calls ≡ place_of c)
+Asks line (Some c) = (words_right line (call_named (word_at line 1) calls) ≡ true) × (call_named (word_at line 1) calls ≡ call_place c)
 
 -- the text of a line that is no comment: the answer's, or that it is refused
 abbrev pub Says : List ℕ → Option Answer → Type 0

@@ -3,7 +3,7 @@ ghost use Rattle.std.specs.Prelude.{◌≡◌, ◌≤◌};
 ghost use Rattle.wording.specs.Writer.{Adds};
 ghost use Rattle.cases.specs.Named.{entry};
 ghost use Rattle.cases.specs.Line.{answer_text, is_comment, string_at, strings_right, answer_of, case_text};
-ghost use Rattle.cases.specs.Parts.{Reads, Asks, Answers, Says, said};
+ghost use Rattle.cases.specs.Parts.{Holds, Asks, Answers, Says, said};
 ghost use Rattle.cases.specs.Strings.{is_bytes, bytes_in};
 
 use crate::calls::Call;
@@ -44,7 +44,7 @@ fn asked(line: &[u8]) -> Option<Call>
 // What the string of that number, of n, stands for; the others are empty.
 fn string_at(line: &[u8], n: usize, number: usize) -> Option<Text<WORD_MAX>>
     requires { n ≤ 5 }
-    ensures { Reads (is_bytes (string_at line.now n number)) (bytes_in (string_at line.now n number)) result }
+    ensures { Holds (is_bytes (string_at line.now n number)) (bytes_in (string_at line.now n number)) result }
 {
     if number < n {
         return read_word(word(line, number + 2));

@@ -2,7 +2,7 @@
 ghost use Rattle.std.specs.Prelude.{◌≡◌, false, true, MatchOption};
 ghost use Rattle.wording.specs.Decimal.{value_of};
 ghost use Rattle.cases.specs.Strings.{word_max, is_bytes, bytes_in, is_room, lent_room, is_lent, lent_in};
-ghost use Rattle.cases.specs.Parts.{Reads};
+ghost use Rattle.cases.specs.Parts.{Holds};
 
 use octets::strings::equal;
 use wording::text::Text;
@@ -12,7 +12,7 @@ pub(crate) const WORD_MAX: usize = 4368;
 
 // The bytes that a word stands for.
 pub(crate) fn read_word(word: &[u8]) -> Option<Text<WORD_MAX>>
-    ensures { Reads (is_bytes word.now) (bytes_in word.now) result }
+    ensures { Holds (is_bytes word.now) (bytes_in word.now) result }
 {
     let mut bytes = [0u8; WORD_MAX];
     if equal(word, b"-") {
@@ -49,7 +49,7 @@ fn full_room() -> [u8; WORD_MAX]
 
 // What a call is lent: a block, or a room full of A5h.
 pub(crate) fn lend(block: bool, word: &[u8]) -> Option<Text<WORD_MAX>>
-    ensures { Reads (is_lent block word.now) (lent_in block word.now) result }
+    ensures { Holds (is_lent block word.now) (lent_in block word.now) result }
 {
     if block {
         return read_word(word);
