@@ -1,4 +1,5 @@
 // The state of FIPS 197, four columns of four bytes by value, and the steps on it that need no S-box.
+// What is done to each column or byte is written out four times: with an array's `map` in inv_mix_columns unwrapping a key took 36.7 us, and so 31.5.
 #![tactic(auto)]
 
 ghost use Rattle.std.specs.Prelude.{◌≡◌, [], ◌∷◌, ◌+◌, ◌≤◌, get_or};
