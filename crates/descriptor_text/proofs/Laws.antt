@@ -46,7 +46,8 @@ reserved_described p h = page-refused p 2 (sym (reserved-number p h)) (λ z. ome
 
 -- ---- room
 
-described_fits : (n : ℕ) (text : List ℕ) (d : Result (Text described_room) Refusal) → (n ≡ 0 → length text ≤ described_room) → described_as n text ≡ described_says d → DescribedFits d
+described_fits : (n : ℕ) (text : List ℕ) (d : Result (Text described_room) Refusal) → (n ≡ 0 → length text ≤ described_room)
+    → described_as n text ≡ described_says d → DescribedFits d
 described_fits n text d short e = record {
   room =
       sym (ap (λ (a : ℕ × ℕ × List ℕ). length a.2) e)

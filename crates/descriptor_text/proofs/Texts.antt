@@ -38,7 +38,8 @@ module _ (l : Bor (List ℕ)) (label strict : Bool) (ok : list_ok label strict l
   whole_text = refl
 
   module _ (count : ℕ) (reader : Reader) (opens : record { number = 0; count = count; reader = reader } ≡ opened_of l label strict) where
-    opened : ◌≡◌ {A = OpenedAnswer} (record { number = 0; count = count; reader = reader }) (record { number = 0; count = count_of label l.now; reader = standing l (cursor_at_start label strict) })
+    opened : ◌≡◌ {A = OpenedAnswer} (record { number = 0; count = count; reader = reader })
+        (record { number = 0; count = count_of label l.now; reader = standing l (cursor_at_start label strict) })
     opened =
         opens
         ∙ sym (ap (λ (b : BegunAnswer). record { number = b.number; count = b.count; reader = standing l b.place }) (begun-counted label strict l.now (count_of label l.now) ok refl))

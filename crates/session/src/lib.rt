@@ -7,7 +7,6 @@ ghost use Rattle.refusals.specs.Numbers.{outcome_number};
 ghost use Rattle.session.specs.Iv.{prefix_size, started, iv_of, next_session};
 ghost use Rattle.session.specs.Calls.{advance_answer, issued_says, issue_answer};
 
-use octets::big_endian::{bytes32, bytes64};
 use refusals::Refusal;
 
 pub const PREFIX_SIZE: usize = 4;
@@ -37,7 +36,7 @@ impl Session {
     {
         let mut iv = [0; IV_SIZE];
         iv[..PREFIX_SIZE].copy_from_slice(&self.prefix);
-        iv[PREFIX_SIZE..].copy_from_slice(&bytes64(self.next));
+        iv[PREFIX_SIZE..].copy_from_slice(&self.next.to_be_bytes());
         iv
     }
 
@@ -67,7 +66,7 @@ pub fn start(prefix: [u8; PREFIX_SIZE], first: u64) -> Session
 pub fn start_numbered(prefix: u32, first: u64) -> Session
     ensures { result ≡ started (be prefix_size prefix) first }
 {
-    start(bytes32(prefix as usize), first)
+    start(prefix.to_be_bytes(), first)
 }
 
 // The next IV by value and the session after it; or, where the session is spent, number 10.

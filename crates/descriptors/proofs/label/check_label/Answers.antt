@@ -24,7 +24,9 @@ module _ (c : After-all) where
       let zeroed = rw c.in_ok-list.ensures.ok_part at c.strip_prefix.ensures.cases in
       shaped c.args.label.now zeroed.0
       ∙ ap (λ (l : List ℕ). list_all (λ (t : ℕ). holds t l) (0x00 ∷ 0x01 ∷ 0x03 ∷ 0x04 ∷ [])) (sym zeroed.1)
-      ∙ sym (all_from_yields_List {all = 0x00 ∷ 0x01 ∷ 0x03 ∷ 0x04 ∷ []} (λ (t : ℕ). holds t c.in_ok-list.list.now) _ _ c.all.result c.all.ensures.ran (YieldsList-from_slice _ cc) (λ x b q k. search (rules, tests)))
+      ∙ sym
+      (all_from_yields_List {all = 0x00 ∷ 0x01 ∷ 0x03 ∷ 0x04 ∷ []} (λ (t : ℕ). holds t c.in_ok-list.list.now) _ _ c.all.result c.all.ensures.ran
+      (YieldsList-from_slice _ cc) (λ x b q k. search (rules, tests)))
 
 pub returns-in_err-list : goal.returns-in_err-list
 returns-in_err-list c =
