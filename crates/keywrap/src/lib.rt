@@ -6,11 +6,10 @@ mod steps;
 
 ghost use Rattle.std.specs.Prelude.{◌≡◌, length};
 ghost use Rattle.refusals.specs.Numbers.{outcome_number};
-ghost use Rattle.aes.specs.KeyExpansion.{schedule};
 ghost use Rattle.keywrap.specs.Wrap.{register_bytes, wrapped, unwrapped};
 ghost use Rattle.keywrap.specs.Calls.{key_size_lem, wrapped_size, wrap_answer, unwrap_answer};
 
-use aes::{RoundKeys, expand_key};
+use aes::expand_key;
 use octets::strings::{equal, put};
 use refusals::Refusal;
 use register::{Register, START_VALUE, from_key, from_wrapped};
@@ -20,19 +19,12 @@ const KEY_SIZE: usize = 32;
 
 const WRAPPED_SIZE: usize = 40;
 
-fn schedule_of(kek: &[u8]) -> RoundKeys
-    requires { length kek.now ≡ key_size_lem }
-    ensures { result ≡ schedule kek.now }
-{
-    expand_key(*kek.as_array().unwrap())
-}
-
 #[tactic(auto, unfolding(crate::specs::Wrap::wrapped))]
 fn wrapped_of(kek: &[u8], key: &[u8]) -> Register
     requires { (length kek.now ≡ key_size_lem) × (length key.now ≡ key_size_lem) }
     ensures { register_bytes result ≡ wrapped kek.now key.now }
 {
-    wrap_steps(schedule_of(kek), from_key(key))
+    wrap_steps(expand_key(*kek.as_array().unwrap()), from_key(key))
 }
 
 #[tactic(auto, unfolding(crate::specs::Wrap::unwrapped))]
@@ -40,7 +32,7 @@ fn unwrapped_of(kek: &[u8], w: &[u8]) -> Register
     requires { (length kek.now ≡ key_size_lem) × (length w.now ≡ wrapped_size) }
     ensures { result ≡ unwrapped kek.now w.now }
 {
-    unwrap_steps(schedule_of(kek), from_wrapped(w))
+    unwrap_steps(expand_key(*kek.as_array().unwrap()), from_wrapped(w))
 }
 
 // Writes the wrapped key, 40 bytes, over the front of the output; or changes nothing, and refuses with

@@ -1,5 +1,5 @@
 // The 24 steps of wrapping (2.2.1) and of unwrapping (2.2.2), index-based, with the schedule and the register by value.
-ghost use Rattle.std.specs.Prelude.{◌≡◌, ◌-◌, ◌≤◌, ◌<◌};
+ghost use Rattle.std.specs.Prelude.{◌≡◌, ◌<◌};
 ghost use Rattle.keywrap.specs.Wrap.{part_at, wrap_step, wrap_steps, unwrap_step, unwrap_steps};
 
 use crate::register::{Register, eight_at};
@@ -11,15 +11,13 @@ const STEPS: usize = 24;
 
 // The part that step t works on.
 fn part_at(t: usize) -> usize
-    requires { 1 ≤ t }
     ensures { (result ≡ part_at t) × (result < 5) }
 {
-    (t - 1) % 4 + 1
+    t.saturating_sub(1) % 4 + 1
 }
 
 #[tactic(auto, using(crate::proofs::Stepped::wrap_step_made))]
 fn wrap_step(ks: RoundKeys, t: usize, mut r: Register) -> Register
-    requires { 1 ≤ t }
     ensures { result ≡ wrap_step ks t r }
 {
     let i = part_at(t);
@@ -33,7 +31,6 @@ fn wrap_step(ks: RoundKeys, t: usize, mut r: Register) -> Register
 
 #[tactic(auto, using(crate::proofs::Stepped::unwrap_step_made))]
 fn unwrap_step(ks: RoundKeys, t: usize, mut r: Register) -> Register
-    requires { 1 ≤ t }
     ensures { result ≡ unwrap_step ks t r }
 {
     let i = part_at(t);
