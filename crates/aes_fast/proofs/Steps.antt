@@ -1,10 +1,12 @@
 -- The rounds by tables as the loops count them, and a block by halves from its first round key to its last round.
 -- Assumes nothing.
-use mathlib.Core.Path.{◌≡◌, sym, ap, ap₂, ◌∙◌}
+use mathlib.Core.Path.{◌≡◌, refl, sym, ap, ap₂, ◌∙◌}
 use mathlib.Core.List.{List, []}
-use Prim.Native.Nat.{ℕ, suc, ◌+◌, ◌-◌, ◌≤◌}
+use Prim.Native.Nat.{ℕ, suc, ◌+◌, ◌-◌, ◌<◌}
+use native.Mathlib.Numerals.{add-one}
 use native.Mathlib.Omega.{arith}
-use lib.ListN.{get_or}
+use lib.ListN.{get_or, take, drop}
+use Rattle.std.proofs.Common.{get_or-take, get_or-drop}
 use Rattle.octets.specs.Xor.{xors}
 use Rattle.aes.specs.State.{State, column, state_of, state_from, column_bytes, bytes_of}
 use Rattle.aes.specs.Cipher.{add_round_key}
@@ -32,26 +34,29 @@ module _ (t : Tables) where
   unfolding last_round_by
   last_round_by_key x k e f = e ∙ ap (last_round_by t x) f
 
-module _ (t : Tables) (ks : List State) where
-  pub rounds_after-none : (m : ℕ) (s : State) → s ≡ rounds_after t ks m (m - m) s
-  unfolding rounds_after
-  rounds_after-none m s = let e : 0 ≡ m - m = omega arith in ap (λ (n : ℕ). rounds_after t ks m n s) e
+-- one of the round keys between the first m + 1 and the last
+pub middle_key : (ks middle : List State) (m n : ℕ) → middle ≡ take (13 - m) (drop (m + 1) ks) → n < 13 - m → get_or middle n [] ≡ get_or ks (m + suc n) []
+middle_key ks middle m n e lt =
+    ap (λ (l : List State). get_or l n []) e ∙ get_or-take (13 - m) (drop (m + 1) ks) n [] lt ∙ get_or-drop (m + 1) ks n [] ∙ ap (λ (i : ℕ). get_or ks i []) place
+  where
+    place : m + 1 + n ≡ m + suc n
+    place = omega arith
 
-  pub rounds_after_more : (m i : ℕ) (s : State) {x u : State} → m ≤ i
-      → x ≡ rounds_after t ks m (i - m) s → u ≡ round_by t x (get_or ks (i + 1) []) → u ≡ rounds_after t ks m (i + 1 - m) s
+module _ (t : Tables) (ks : List State) where
+  pub rounds_after-none : (m : ℕ) (s : State) → s ≡ rounds_after t ks m 0 s
   unfolding rounds_after
-  rounds_after_more m i s h p q =
-      let key : i + 1 ≡ m + suc (i - m) = omega arith in
-      let more : suc (i - m) ≡ i + 1 - m = omega arith in
-      q
-      ∙ ap₂ (λ (y : State) (n : ℕ). round_by t y (get_or ks n [])) p key
-      ∙ ap (λ (n : ℕ). rounds_after t ks m n s) more
+  rounds_after-none m s = refl
+
+  pub rounds_after_more : (m n : ℕ) (s : State) {x u : State} → x ≡ rounds_after t ks m n s → u ≡ round_by t x (get_or ks (m + suc n) []) → u ≡ rounds_after t ks m (n + 1) s
+  unfolding rounds_after
+  rounds_after_more m n s p q =
+      q ∙ ap (λ (y : State). round_by t y (get_or ks (m + suc n) [])) p ∙ ap (λ (i : ℕ). rounds_after t ks m i s) (sym (add-one n))
 
   -- the rounds after the first m, and the last
-  pub last_rounds : (m i : ℕ) (s x r : State) → i ≡ 13 → r ≡ last_round_by t x (get_or ks 14 []) → x ≡ rounds_after t ks m (i - m) s
+  pub last_rounds : (m n : ℕ) (s x r : State) → n ≡ 13 - m → r ≡ last_round_by t x (get_or ks 14 []) → x ≡ rounds_after t ks m n s
       → r ≡ later_rounds_by t ks m s
-  last_rounds m i s x r all e f =
-      e ∙ ap (λ (y : State). last_round_by t y (get_or ks 14 [])) (f ∙ ap (λ (n : ℕ). rounds_after t ks m (n - m) s) all)
+  last_rounds m n s x r all e f =
+      e ∙ ap (λ (y : State). last_round_by t y (get_or ks 14 [])) (f ∙ ap (λ (i : ℕ). rounds_after t ks m i s) all)
 
   -- ---- from a block's halves to the halves of its cipher
 

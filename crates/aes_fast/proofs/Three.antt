@@ -2,8 +2,7 @@
 -- Assumes nothing.
 use mathlib.Core.Path.{◌≡◌, ap, ◌∙◌}
 use mathlib.Core.List.{List, [], ◌∷◌}
-use Prim.Native.Nat.{ℕ, ◌+◌, ◌-◌, ◌/◌, ◌%◌, ◌≤◌, ◌<◌}
-use native.Mathlib.Omega.{arith}
+use Prim.Native.Nat.{ℕ, suc, ◌+◌, ◌-◌, ◌/◌, ◌%◌}
 use lib.Bits.{bit_xor}
 use lib.ListN.{get_or}
 use Rattle.octets.proofs.Values.{four}
@@ -59,28 +58,25 @@ module _ (x : ThreeWords) where
 -- ---- two states side by side
 
 module _ (t : Tables) (ks : List State) (m : ℕ) (x₀ y₀ : ThreeWords) where
-  -- of each, the rounds after the first m are done up to i
+  -- of each, n rounds after the first m are done
   abbrev pub BothDone : ThreeWords → ThreeWords → ℕ → Type 0
-  BothDone x y i =
-      (m ≤ i) × (i ≤ 13) × (columns_held x ≡ rounds_after t ks m (i - m) (columns_held x₀)) × (columns_held y ≡ rounds_after t ks m (i - m) (columns_held y₀))
+  BothDone x y n = (columns_held x ≡ rounds_after t ks m n (columns_held x₀)) × (columns_held y ≡ rounds_after t ks m n (columns_held y₀))
 
-  pub both-none : m ≤ 13 → BothDone x₀ y₀ m
-  both-none h = (omega arith, h, rounds_after-none t ks m (columns_held x₀), rounds_after-none t ks m (columns_held y₀))
+  pub both-none : BothDone x₀ y₀ 0
+  both-none = (rounds_after-none t ks m (columns_held x₀), rounds_after-none t ks m (columns_held y₀))
 
-  module _ (x y : ThreeWords) (i : ℕ) (done : BothDone x y i) where
-    pub both_more : (k u v : ThreeWords) → i < 13 → columns_held k ≡ key_bytes (get_or ks (i + 1) [])
-        → columns_held u ≡ round_by t (columns_held x) (columns_held k) → columns_held v ≡ round_by t (columns_held y) (columns_held k) → BothDone u v (i + 1)
-    both_more k u v h key e f = (
-      omega (arith, done.0),
-      omega arith,
-      rounds_after_more t ks m i (columns_held x₀) done.0 done.2 (round_by_key t (columns_held x) (get_or ks (i + 1) []) e key),
-      rounds_after_more t ks m i (columns_held y₀) done.0 done.3 (round_by_key t (columns_held y) (get_or ks (i + 1) []) f key),
+  module _ (x y : ThreeWords) (n : ℕ) (done : BothDone x y n) where
+    pub both_more : (key : State) (k u v : ThreeWords) → key ≡ get_or ks (m + suc n) [] → columns_held k ≡ key_bytes key
+        → columns_held u ≡ round_by t (columns_held x) (columns_held k) → columns_held v ≡ round_by t (columns_held y) (columns_held k) → BothDone u v (n + 1)
+    both_more key k u v which read e f = (
+      rounds_after_more t ks m n (columns_held x₀) done.0 (round_by_key t (columns_held x) (get_or ks (m + suc n) []) e (read ∙ ap key_bytes which)),
+      rounds_after_more t ks m n (columns_held y₀) done.1 (round_by_key t (columns_held y) (get_or ks (m + suc n) []) f (read ∙ ap key_bytes which)),
     )
 
-    pub both_last : (k u v : Halves) → i ≡ 13 → columns_of k ≡ key_bytes (get_or ks 14 [])
+    pub both_last : (k u v : Halves) → n ≡ 13 - m → columns_of k ≡ key_bytes (get_or ks 14 [])
         → columns_of u ≡ last_round_by t (columns_held x) (columns_of k) → columns_of v ≡ last_round_by t (columns_held y) (columns_of k)
         → (columns_of u ≡ later_rounds_by t ks m (columns_held x₀)) × (columns_of v ≡ later_rounds_by t ks m (columns_held y₀))
     both_last k u v all key e f = (
-      last_rounds t ks m i (columns_held x₀) (columns_held x) (columns_of u) all (last_round_by_key t (columns_held x) (get_or ks 14 []) e key) done.2,
-      last_rounds t ks m i (columns_held y₀) (columns_held y) (columns_of v) all (last_round_by_key t (columns_held y) (get_or ks 14 []) f key) done.3,
+      last_rounds t ks m n (columns_held x₀) (columns_held x) (columns_of u) all (last_round_by_key t (columns_held x) (get_or ks 14 []) e key) done.0,
+      last_rounds t ks m n (columns_held y₀) (columns_held y) (columns_of v) all (last_round_by_key t (columns_held y) (get_or ks 14 []) f key) done.1,
     )

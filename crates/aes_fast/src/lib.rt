@@ -19,10 +19,10 @@ ghost use Rattle.aes_fast.specs.Halves.{halves_block};
 ghost use Rattle.aes_fast.specs.Start.{cipher_from};
 ghost use Rattle.aes_fast.specs.Laws.{Ciphered};
 
-use aes::{LAST_ROUND, MIDDLE_ROUNDS, RoundKeys};
+use aes::RoundKeys;
 use halves::{Both, Halves, add_halves};
 use octets::strings::Block;
-use rounds::{last_of_three, round_of_three};
+use rounds::round_of_three;
 use row_0::ROW_0;
 use row_1::ROW_1;
 use row_2::ROW_2;
@@ -64,58 +64,29 @@ impl Keyed<'_> {
     pub fn encrypt_two_from(self, s: Start, low: u8, next: u8) -> Both
         ensures { (halves_block result.one ≡ cipher_from self.entry.tables.now self.entry.keys.now s low) × (halves_block result.other ≡ cipher_from self.entry.tables.now self.entry.keys.now s next) }
     {
-        let both = Both {
-            one: begun(self.tables, s, low),
-            other: begun(self.tables, s, next),
-        };
-        self.rounds_after_two(both)
+        let one = ThreeWords::from(begun(self.tables, s, low));
+        let other = ThreeWords::from(begun(self.tables, s, next));
+        self.rounds_after_two(2, one, other)
     }
 
-    // Any block, beside one that begins with others. The rounds of both have their loop here: in a function that others call too, the compiler would leave a call
-    // for each block.
+    // Any block, beside one that begins with others.
     pub fn encrypt_beside(self, b: Halves, s: Start, low: u8) -> Both
         ensures { (halves_block result.one ≡ cipher_by self.entry.tables.now self.entry.keys.now (halves_block b)) × (halves_block result.other ≡ cipher_from self.entry.tables.now self.entry.keys.now s low) }
     {
         let none = ThreeWords::from(add_halves(b, Halves::from(self.keys[0])));
         let one = round_of_three(self.tables, none, ThreeWords::from(self.keys[1]));
-        let mut x = round_of_three(self.tables, one, ThreeWords::from(self.keys[2]));
-        let mut y = ThreeWords::from(begun(self.tables, s, low));
-        let mut i: usize = 2;
-        while i < MIDDLE_ROUNDS {
-            let k = ThreeWords::from(self.keys[i + 1]);
-            let u = round_of_three(self.tables, x, k);
-            let v = round_of_three(self.tables, y, k);
-            x = u;
-            y = v;
-            i += 1;
-        }
-        let k = Halves::from(self.keys[LAST_ROUND]);
-        Both {
-            one: last_of_three(self.tables, x, k),
-            other: last_of_three(self.tables, y, k),
-        }
+        let two = round_of_three(self.tables, one, ThreeWords::from(self.keys[2]));
+        let other = ThreeWords::from(begun(self.tables, s, low));
+        self.rounds_after_two(2, two, other)
     }
 
     // Any two blocks.
     pub fn encrypt_two(self, b: Block, c: Block) -> Both
         ensures { Ciphered self.entry.tables.now self.entry.keys.now (λ f. f b) (halves_block result.one) × Ciphered self.entry.tables.now self.entry.keys.now (λ f. f c) (halves_block result.other) }
     {
-        let first = Halves::from(self.keys[0]);
-        let mut x = ThreeWords::from(add_halves(Halves::from(b), first));
-        let mut y = ThreeWords::from(add_halves(Halves::from(c), first));
-        let mut i: usize = 0;
-        while i < MIDDLE_ROUNDS {
-            let k = ThreeWords::from(self.keys[i + 1]);
-            let u = round_of_three(self.tables, x, k);
-            let v = round_of_three(self.tables, y, k);
-            x = u;
-            y = v;
-            i += 1;
-        }
-        let k = Halves::from(self.keys[LAST_ROUND]);
-        Both {
-            one: last_of_three(self.tables, x, k),
-            other: last_of_three(self.tables, y, k),
-        }
+        let key = Halves::from(self.keys[0]);
+        let one = ThreeWords::from(add_halves(Halves::from(b), key));
+        let other = ThreeWords::from(add_halves(Halves::from(c), key));
+        self.rounds_after_two(0, one, other)
     }
 }

@@ -1,5 +1,5 @@
 // The rounds by tables: of one block alone over a state in four words, else over one in three, and the last over one in two. A byte of a word is its place in a table.
-ghost use Rattle.std.specs.Prelude.{◌≡◌, ◌%◌, ◌≤◌};
+ghost use Rattle.std.specs.Prelude.{◌≡◌, ◌+◌, ◌-◌, ◌%◌, ◌≤◌, length, take, drop};
 ghost use Rattle.aes_fast.specs.ByTables.{column_from, mixed_by, substituted_by, round_by, last_round_by, column_fed, later_rounds_by};
 ghost use Rattle.aes_fast.specs.Halves.{columns_of};
 ghost use Rattle.aes_fast.specs.FourWords.{columns_in};
@@ -9,7 +9,8 @@ use crate::four_words::FourWords;
 use crate::halves::{Both, Halves, add_halves, from_columns};
 use crate::three_words::{ThreeWords, three_words_with};
 use crate::{Keyed, Tables};
-use aes::{LAST_ROUND, MIDDLE_ROUNDS};
+use aes::{LAST_ROUND, RoundKeys};
+use aes_state::State;
 
 fn mixed_column(t: &Tables, a: u64, b: u64, c: u64, d: u64) -> u32
     ensures { column_from result ≡ mixed_by t.now (a % 256) (b % 256) (c % 256) (d % 256) }
@@ -90,10 +91,19 @@ pub(crate) fn round_of_three(t: &Tables, s: ThreeWords, k: ThreeWords) -> ThreeW
 }
 
 // The last round of a state in three words.
-pub(crate) fn last_of_three(t: &Tables, s: ThreeWords, k: Halves) -> Halves
+fn last_of_three(t: &Tables, s: ThreeWords, k: Halves) -> Halves
     ensures { columns_of result ≡ last_round_by t.now (columns_held s) (columns_of k) }
 {
     last_round(t, Halves::from(s), k)
+}
+
+// The round keys of the middle rounds that are left after the first `done`.
+fn middle_keys(keys: &RoundKeys, done: usize) -> &[State]
+    requires { done ≤ 13 }
+    ensures keys { result.now ≡ take (13 - done) (drop (done + 1) keys.now) }
+    ensures count { length result.now ≡ 13 - done }
+{
+    &keys[done + 1..LAST_ROUND]
 }
 
 impl Keyed<'_> {
@@ -102,40 +112,34 @@ impl Keyed<'_> {
         requires { done ≤ 13 }
         ensures { columns_of result ≡ later_rounds_by self.entry.tables.now self.entry.keys.now done (columns_of s) }
     {
+        let Keyed { tables, keys } = self;
         let mut x = FourWords::from(s);
-        let mut i = done;
-        while i < MIDDLE_ROUNDS {
-            let u = round_of_four(self.tables, x, FourWords::from(self.keys[i + 1]));
-            x = u;
-            i += 1;
+        for key in middle_keys(keys, done) {
+            x = round_of_four(tables, x, FourWords::from(*key));
         }
-        last_round(
-            self.tables,
-            Halves::from(x),
-            Halves::from(self.keys[LAST_ROUND]),
-        )
+        let h = Halves::from(x);
+        last_round(tables, h, Halves::from(keys[LAST_ROUND]))
     }
 
-    // Rounds 3 to 14 of two states side by side: neither waits for the other.
-    pub(crate) fn rounds_after_two(self, s: Both) -> Both
-        ensures one_value { columns_of result.one ≡ later_rounds_by self.entry.tables.now self.entry.keys.now 2 (columns_of s.one) }
-        ensures other_value { columns_of result.other ≡ later_rounds_by self.entry.tables.now self.entry.keys.now 2 (columns_of s.other) }
+    // The same of two states side by side: neither waits for the other. Of a function that several call the compiler would leave a call for each block.
+    #[inline(always)]
+    pub(crate) fn rounds_after_two(self, done: usize, one: ThreeWords, other: ThreeWords) -> Both
+        requires { done ≤ 13 }
+        ensures one_value { columns_of result.one ≡ later_rounds_by self.entry.tables.now self.entry.keys.now done (columns_held one) }
+        ensures other_value { columns_of result.other ≡ later_rounds_by self.entry.tables.now self.entry.keys.now done (columns_held other) }
     {
-        let mut x = ThreeWords::from(s.one);
-        let mut y = ThreeWords::from(s.other);
-        let mut i: usize = 2;
-        while i < MIDDLE_ROUNDS {
-            let k = ThreeWords::from(self.keys[i + 1]);
-            let u = round_of_three(self.tables, x, k);
-            let v = round_of_three(self.tables, y, k);
-            x = u;
-            y = v;
-            i += 1;
+        let Keyed { tables, keys } = self;
+        let mut x = one;
+        let mut y = other;
+        for key in middle_keys(keys, done) {
+            let k = ThreeWords::from(*key);
+            x = round_of_three(tables, x, k);
+            y = round_of_three(tables, y, k);
         }
-        let k = Halves::from(self.keys[LAST_ROUND]);
+        let k = Halves::from(keys[LAST_ROUND]);
         Both {
-            one: last_of_three(self.tables, x, k),
-            other: last_of_three(self.tables, y, k),
+            one: last_of_three(tables, x, k),
+            other: last_of_three(tables, y, k),
         }
     }
 }

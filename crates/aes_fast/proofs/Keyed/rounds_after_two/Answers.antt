@@ -1,29 +1,30 @@
--- `aes_fast::rounds::rounds_after_two` meets its contract: the loop's invariant: the rounds up to i are done on both. The measure is the rounds left.
+-- `Keyed::rounds_after_two` meets its contract. The loop's invariant: of each state, as many rounds are done as round keys were read.
 -- Assumes nothing.
-use mathlib.Core.Path.{◌≡◌, ap, ◌∙◌}
+use mathlib.Core.Path.{◌≡◌}
+use Prim.Native.Nat.{◌-◌}
 use native.Mathlib.Omega.{arith}
-use lib.Dec.{lit≤}
-use Rattle.aes_fast.specs.ByTables.{later_rounds_by}
+use Rattle.aes_fast.proofs.Steps.{middle_key}
 use Rattle.aes_fast.proofs.Three.{both-none, both_more, both_last}
 use Rattle.aes_fast.proofs.Keyed.rounds_after_two.Goals as goal
 
-pub loop-i-init : goal.loop-i-init
-loop-i-init c = both-none _ _ 2 _ _ (lit≤ tt)
+pub loop-key-init : goal.loop-key-init
+loop-key-init c = both-none _ _ c.args.done _ _
 
-pub loop-i-preserved : goal.loop-i-preserved
-loop-i-preserved c =
-    let l = c.loop-i in
-    both_more _ _ 2 _ _ l.x l.y l.i l.invariant c.from-k.result _ _ (omega arith)
-    c.from-k.ensures c.round_of_three-u.ensures c.round_of_three-v.ensures
+pub loop-key-preserved : goal.loop-key-preserved
+loop-key-preserved c =
+    let l = c.loop-key in
+    let ks = c.args.self.keys.now in
+    both_more _ ks c.args.done _ _ l.x l.y l.key-index l.invariant _ c.from-k.result _ _
+    (middle_key ks _ c.args.done l.key-index c.middle_keys-key-items.ensures.keys (omega (arith, c.middle_keys-key-items.ensures.count)))
+    c.from-k.ensures c.round_of_three-x.ensures c.round_of_three-y.ensures
 
 pub returns : goal.returns
 returns c =
-    let l = c.loop-i in
+    let l = c.loop-key in
     let a = c.args in
-    let all : l.i ≡ 13 = omega (arith, c.loop-i-test.false, l.invariant.1) in
-    let both =
-    both_last a.self.tables.now a.self.keys.now 2 c.from-x.result c.from-y.result l.x l.y l.i l.invariant c.from-k-2.result _ _ all
+    let all : l.key-index ≡ 13 - a.done = omega (arith, c.middle_keys-key-items.ensures.count) in
+    let both = both_last a.self.tables.now a.self.keys.now a.done a.one a.other l.x l.y l.key-index l.invariant c.from-k-2.result _ _ all
     c.from-k-2.ensures c.last_of_three.ensures c.last_of_three-2.ensures in record {
-      one_value = both.0 ∙ ap (later_rounds_by a.self.tables.now a.self.keys.now 2) c.from-x.ensures;
-      other_value = both.1 ∙ ap (later_rounds_by a.self.tables.now a.self.keys.now 2) c.from-y.ensures;
+      one_value = both.0;
+      other_value = both.1;
     }
