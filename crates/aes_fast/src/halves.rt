@@ -7,9 +7,9 @@ ghost use Rattle.aes.specs.State.{column, state_of, column_bytes};
 ghost use Rattle.aes_fast.specs.ByTables.{column_from};
 ghost use Rattle.aes_fast.specs.Halves.{columns_of, halves_block, word_bytes, block_at};
 
-use crate::words::{column_word, word_at};
+use crate::words::column_word;
 use aes_state::State;
-use octets::strings::{Block, put};
+use octets::strings::{Block, put, two_eights};
 
 #[derive(Clone, Copy)]
 pub struct Halves {
@@ -21,6 +21,13 @@ pub struct Halves {
 pub struct Both {
     pub one: Halves,
     pub other: Halves,
+}
+
+impl Halves {
+    const ZERO: Halves = Halves {
+        first: 0,
+        second: 0,
+    };
 }
 
 pub(crate) fn half_of(a: u32, b: u32) -> u64
@@ -51,46 +58,36 @@ impl From<State> for Halves {
     }
 }
 
-fn whole_at(s: &[u8], i: usize) -> Halves
-    requires { i + 16 ≤ length s.now }
-    ensures { halves_block result ≡ part_of s.now i 16 }
-{
-    from_columns(
-        word_at(s, i),
-        word_at(s, i + 4),
-        word_at(s, i + 8),
-        word_at(s, i + 12),
-    )
-}
-
 impl From<Block> for Halves {
     ghost from_gives = { λ b h. halves_block h ≡ b };
 
     fn from(b: Block) -> Halves {
-        whole_at(&b, 0)
+        let (words, _) = b.as_chunks::<8>();
+        Halves {
+            first: u64::from_le_bytes(words[0]),
+            second: u64::from_le_bytes(words[1]),
+        }
     }
 }
 
-// Whether a block lies in n bytes from place i on.
-fn lies_at(n: usize, i: usize) -> bool
-    ensures { result ≡ leb (i + 16) n }
-{
-    if n < 16 {
-        return false;
+impl From<Halves> for Block {
+    ghost from_gives = { λ h b. b ≡ halves_block h };
+
+    fn from(h: Halves) -> Block {
+        two_eights(h.first.to_le_bytes(), h.second.to_le_bytes())
     }
-    i <= n - 16
 }
 
 // The block from place i on, and zeros where no whole block lies there.
 pub fn halves_at(s: &[u8], i: usize) -> Halves
     ensures { halves_block result ≡ block_at s.now i }
 {
-    if lies_at(s.len(), i) {
-        return whole_at(s, i);
-    }
-    Halves {
-        first: 0,
-        second: 0,
+    let Some(rest) = s.get(i..) else {
+        return Halves::ZERO;
+    };
+    match rest.first_chunk() {
+        Some(b) => Halves::from(*b),
+        None => Halves::ZERO,
     }
 }
 
@@ -103,37 +100,13 @@ pub fn add_halves(a: Halves, b: Halves) -> Halves
     }
 }
 
-// The eight bytes of a word from place i on.
-fn write_word(out: &mut [u8], i: usize, w: u64)
-    requires { i + 8 ≤ length out.old }
-    ensures { out.new ≡ take i out.old ++ word_bytes w ++ drop (i + 8) out.old }
+// The block over the front of an output that has no room for it whole.
+#[cold]
+#[inline(never)]
+fn put_front(out: &mut [u8], h: Halves)
+    ensures { out.new ≡ over (halves_block h) out.old }
 {
-    out[i] = (w % 256) as u8;
-    out[i + 1] = (w / 256 % 256) as u8;
-    out[i + 2] = (w / 65536 % 256) as u8;
-    out[i + 3] = (w / 16777216 % 256) as u8;
-    out[i + 4] = (w / 4294967296 % 256) as u8;
-    out[i + 5] = (w / 1099511627776 % 256) as u8;
-    out[i + 6] = (w / 281474976710656 % 256) as u8;
-    out[i + 7] = (w / 72057594037927936 % 256) as u8;
-}
-
-fn put_whole(out: &mut [u8], h: Halves)
-    requires { 16 ≤ length out.old }
-    ensures { out.new ≡ halves_block h ++ drop 16 out.old }
-{
-    write_word(out, 0, h.first);
-    write_word(out, 8, h.second);
-}
-
-impl From<Halves> for Block {
-    ghost from_gives = { λ h b. b ≡ halves_block h };
-
-    fn from(h: Halves) -> Block {
-        let mut b = [0u8; 16];
-        put_whole(&mut b, h);
-        b
-    }
+    put(out, &Block::from(h));
 }
 
 // The block over the front of the output, as far as it reaches.
@@ -141,9 +114,9 @@ pub fn put_halves(out: &mut [u8], h: Halves)
     ensures { out.new ≡ over (halves_block h) out.old }
 {
     if out.len() < 16 {
-        let b = Block::from(h);
-        put(out, &b);
+        put_front(out, h);
         return;
     }
-    put_whole(out, h);
+    out[..8].copy_from_slice(&h.first.to_le_bytes());
+    out[8..16].copy_from_slice(&h.second.to_le_bytes());
 }
