@@ -1,11 +1,8 @@
 -- Blocks of strings: read from a place as columns, and written over the front of an output a word after the other.
 -- Assumes nothing.
-use mathlib.Core.Path.{◌≡◌, refl, sym, ap, ap₂, ◌∙◌}
-use mathlib.Core.Bool.{Bool, true, false}
+use mathlib.Core.Path.{◌≡◌, sym, ap, ap₂, ◌∙◌}
 use mathlib.Core.List.{List, [], ◌∷◌, ◌++◌}
-use Prim.Native.Nat.{ℕ, suc, ◌+◌, ◌-◌, ◌/◌, ◌%◌, ◌≤◌, ◌<◌}
-use native.Mathlib.Nat.{add-zero}
-use native.Mathlib.Numerals.{add-one, add-two, add-three, add-four, add_five, add_six, add_seven}
+use Prim.Native.Nat.{ℕ, ◌+◌, ◌/◌, ◌≤◌, ◌<◌}
 use native.Mathlib.Omega.{arith}
 use borrow.Rule.Slice.PartMut.{put_mid}
 use lib.ListN.{length, get_or, take, drop, replicate, length-drop, take-append-drop}
@@ -15,18 +12,11 @@ use Rattle.std.proofs.lemmas.Nat.{le_bytes_8}
 use Rattle.octets.specs.Bytes.{Bytes}
 use Rattle.octets.proofs.Bytes.{bytes_take, bytes_drop}
 use lib.Seq.{take_all, drop-drop, length-take-le}
-use lib.Dec.{leb}
-use borrow.Author.Tests.{leb-true, leb-false, le-leb, lt-leb}
+use borrow.Author.Tests.{le-leb, lt-leb}
 use Rattle.octets.specs.Lent.{over}
 use Rattle.octets.specs.Tests.{part_of}
-use Rattle.octets.specs.Values.{values}
 use Rattle.octets.proofs.Lent.{over_fits}
-use Rattle.octets.proofs.Tests.{length_part}
-use Rattle.octets.proofs.Values.{cons_equal, values-from, values_part, values_list, four}
-use Rattle.aes_field.specs.Words.{Column}
-use Rattle.aes.specs.State.{column_bytes, bytes_of}
-use Rattle.aes_fast.specs.Halves.{columns_of, halves_block, word_bytes, block_at}
-use Rattle.aes_fast.specs.Halves.Inside.{halves_block_is}
+use Rattle.aes_fast.specs.Halves.{halves_block, word_bytes, block_at}
 use Rattle.aes_fast.specs.declared.halves.Halves.{Halves}
 use Rattle.aes_fast.proofs.Pairs.{word_bytes_is, halves_block-words}
 use Rattle.aes_fast.proofs.Restored.{length-halves_block}

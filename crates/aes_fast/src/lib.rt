@@ -61,6 +61,8 @@ impl Keyed<'_> {
         self.rounds_after(2, begun(self.tables, s, low))
     }
 
+    // In the loop of a text: where two call it, the compiler would leave a call for each pair of blocks.
+    #[inline(always)]
     pub fn encrypt_two_from(self, s: Start, low: u8, next: u8) -> Both
         ensures { (halves_block result.one ≡ cipher_from self.entry.tables.now self.entry.keys.now s low) × (halves_block result.other ≡ cipher_from self.entry.tables.now self.entry.keys.now s next) }
     {
@@ -69,7 +71,8 @@ impl Keyed<'_> {
         self.rounds_after_two(2, one, other)
     }
 
-    // Any block, beside one that begins with others.
+    // Any block, beside one that begins with others, in the loop of a text too.
+    #[inline(always)]
     pub fn encrypt_beside(self, b: Halves, s: Start, low: u8) -> Both
         ensures { (halves_block result.one ≡ cipher_by self.entry.tables.now self.entry.keys.now (halves_block b)) × (halves_block result.other ≡ cipher_from self.entry.tables.now self.entry.keys.now s low) }
     {
