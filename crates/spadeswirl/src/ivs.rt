@@ -5,6 +5,7 @@ ghost use Rattle.session.specs.Iv.{prefix_size};
 ghost use Rattle.session.specs.Calls.{start_answer, issue_answer};
 ghost use Rattle.record.specs.Next.{seal_next_answer};
 
+use refusals::number;
 use session::Session;
 
 #[unsafe(no_mangle)]
@@ -19,7 +20,7 @@ pub extern "C" fn spadeswirl_session_start(s: &mut Session, prefix: u32, first: 
 pub extern "C" fn spadeswirl_session_issue(s: &mut Session, out: &mut [u8]) -> u8
     ensures { issue_answer s.old out.old ≡ (result, out.new, s.new) }
 {
-    session::issue(s, out)
+    number(session::issue(s, out))
 }
 
 #[unsafe(no_mangle)]
@@ -33,5 +34,5 @@ pub extern "C" fn spadeswirl_seal_next(
 ) -> u8
     ensures { seal_next_answer s.old table.now name.now aad.now plain.now out.old ≡ (result, out.new, s.new) }
 {
-    record::next::seal_next(s, table, name, aad, plain, out)
+    number(record::next::seal_next(s, table, name, aad, plain, out))
 }

@@ -1,8 +1,11 @@
 // CCM and GCM by themselves, each by the byte that names it; the second part of the associated data is empty.
+// The C interface has a name for each, so that no generic function stands in place of these.
 ghost use Rattle.std.specs.Prelude.{◌≡◌, []};
 ghost use Rattle.modes.specs.Ccm.{ccm};
 ghost use Rattle.modes.specs.Gcm.{gcm};
 ghost use Rattle.modes.specs.Calls.{encrypt_answer, decrypt_answer};
+
+use refusals::number;
 
 const CCM: u8 = 0x01;
 
@@ -18,7 +21,7 @@ pub extern "C" fn spadeswirl_ccm_encrypt(
 ) -> u8
     ensures { encrypt_answer ccm key.now iv.now aad.now [] plain.now out.old ≡ (result, out.new) }
 {
-    modes::encrypt(CCM, key, iv, aad, &aad[..0], plain, out)
+    number(modes::encrypt(CCM, key, iv, aad, &[], plain, out))
 }
 
 #[unsafe(no_mangle)]
@@ -32,7 +35,7 @@ pub extern "C" fn spadeswirl_ccm_decrypt(
 ) -> u8
     ensures { decrypt_answer ccm key.now iv.now aad.now [] text.now tag.now out.old ≡ (result, out.new) }
 {
-    modes::decrypt(CCM, key, iv, aad, &aad[..0], text, tag, out)
+    number(modes::decrypt(CCM, key, iv, aad, &[], text, tag, out))
 }
 
 #[unsafe(no_mangle)]
@@ -45,7 +48,7 @@ pub extern "C" fn spadeswirl_gcm_encrypt(
 ) -> u8
     ensures { encrypt_answer gcm key.now iv.now aad.now [] plain.now out.old ≡ (result, out.new) }
 {
-    modes::encrypt(GCM, key, iv, aad, &aad[..0], plain, out)
+    number(modes::encrypt(GCM, key, iv, aad, &[], plain, out))
 }
 
 #[unsafe(no_mangle)]
@@ -59,5 +62,5 @@ pub extern "C" fn spadeswirl_gcm_decrypt(
 ) -> u8
     ensures { decrypt_answer gcm key.now iv.now aad.now [] text.now tag.now out.old ≡ (result, out.new) }
 {
-    modes::decrypt(GCM, key, iv, aad, &aad[..0], text, tag, out)
+    number(modes::decrypt(GCM, key, iv, aad, &[], text, tag, out))
 }

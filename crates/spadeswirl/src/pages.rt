@@ -8,19 +8,20 @@ ghost use Rattle.page_writer.specs.Write.{write_answer, write_wrapped_answer};
 use keypage::places::PLACE_COUNT;
 use keypage::reading::FIELD_COUNT;
 use page_writer::CHOSEN_COUNT;
+use refusals::number;
 
 #[unsafe(no_mangle)]
 pub extern "C" fn spadeswirl_page_read(page: &[u8], fields: &mut [u64; FIELD_COUNT]) -> u8
     ensures { page_read_answer page.now fields.old ≡ (result, fields.new) }
 {
-    keypage::reading::read(page, fields)
+    number(keypage::reading::read(page, fields))
 }
 
 #[unsafe(no_mangle)]
 pub extern "C" fn spadeswirl_page_parts(page: &[u8], at: &mut [u64; PLACE_COUNT]) -> u8
     ensures { places_answer page.now at.old ≡ (result, at.new) }
 {
-    keypage::places::places(page, at)
+    number(keypage::places::places(page, at))
 }
 
 #[unsafe(no_mangle)]
@@ -32,7 +33,7 @@ pub extern "C" fn spadeswirl_page_load(
 ) -> u8
     ensures { load_answer table.now page.now out.old fields.old ≡ ((result, out.new), fields.new) }
 {
-    keypage::loading::load(table, page, out, fields)
+    number(keypage::loading::load(table, page, out, fields))
 }
 
 #[unsafe(no_mangle)]
@@ -45,7 +46,7 @@ pub extern "C" fn spadeswirl_page_write(
 ) -> u8
     ensures { write_answer fields.now part.now list.now out.old n.old ≡ ((result, out.new), n.new) }
 {
-    page_writer::write(fields, part, list, out, n)
+    number(page_writer::write(fields, part, list, out, n))
 }
 
 #[unsafe(no_mangle)]
@@ -62,5 +63,5 @@ pub extern "C" fn spadeswirl_page_write_wrapped(
     ensures { write_wrapped_answer table.now fields.now kind identifier.now key.now list.now out.old
         n.old ≡ ((result, out.new), n.new) }
 {
-    page_writer::write_wrapped(table, fields, kind as usize, identifier, key, list, out, n)
+    number(page_writer::write_wrapped(table, fields, kind as usize, identifier, key, list, out, n))
 }

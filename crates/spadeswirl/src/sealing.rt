@@ -4,6 +4,8 @@ ghost use Rattle.record.specs.Read.{header_number};
 ghost use Rattle.record.specs.Seal.{seal_answer};
 ghost use Rattle.record.specs.Open.{open_answer, verify_answer};
 
+use refusals::number;
+
 #[unsafe(no_mangle)]
 pub extern "C" fn spadeswirl_seal(
     table: &[u8],
@@ -15,7 +17,7 @@ pub extern "C" fn spadeswirl_seal(
 ) -> u8
     ensures { seal_answer table.now name.now iv.now aad.now plain.now out.old ≡ (result, out.new) }
 {
-    record::sealing::seal(table, name, iv, aad, plain, out)
+    number(record::sealing::seal(table, name, iv, aad, plain, out))
 }
 
 #[unsafe(no_mangle)]
@@ -28,19 +30,19 @@ pub extern "C" fn spadeswirl_open(
 ) -> u8
     ensures { open_answer table.now sealed.now aad.now out.old count.old ≡ ((result, out.new), count.new) }
 {
-    record::opening::open(table, sealed, aad, out, count)
+    number(record::opening::open(table, sealed, aad, out, count))
 }
 
 #[unsafe(no_mangle)]
 pub extern "C" fn spadeswirl_verify(table: &[u8], sealed: &[u8], aad: &[u8]) -> u8
     ensures { result ≡ verify_answer table.now sealed.now aad.now }
 {
-    record::opening::verify(table, sealed, aad)
+    number(record::opening::verify(table, sealed, aad))
 }
 
 #[unsafe(no_mangle)]
 pub extern "C" fn spadeswirl_record_check(sealed: &[u8]) -> u8
     ensures { result ≡ header_number sealed.now }
 {
-    record::header::check(sealed)
+    number(record::header::check(sealed))
 }
