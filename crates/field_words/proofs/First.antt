@@ -1,18 +1,19 @@
 -- The place of the first element that passes a test.
 -- Assumes nothing.
-use mathlib.Core.Path.{◌≡◌, refl, ap}
-use mathlib.Core.Bool.{Bool, true, false, not}
+use mathlib.Core.Path.{◌≡◌, refl, sym, ap, subst, ◌∙◌}
+use mathlib.Core.Bool.{Bool, true, false, not, cond}
 use mathlib.Core.List.{List, [], ◌∷◌, ◌++◌}
 use Prim.Native.Nat.{ℕ, suc, ◌+◌, ◌≤◌, ◌<◌}
-use native.Mathlib.Numerals.{add-one}
 use native.Mathlib.Omega.{arith}
-use lib.ListN.{length, get_or, drop, drop_of_length-le}
-use lib.Seq.{drop-cons}
-use borrow.Author.Tests.{not-true, eq-eqb, ne_eqb}
+use lib.Dec.{ltb}
+use lib.ListN.{length, get_or}
+use borrow.Author.Tests.{not-true, ltb-true, ltb-false}
+use Rattle.std.specs.Prelude.{Option, Some, None, unwrap_or}
+use Rattle.std.specs.List.{position, position_or_len}
 use Rattle.octets.specs.Lent.{when}
 use Rattle.octets.specs.Tests.{all}
 use Rattle.octets.proofs.Tests.{and_left, and_right}
-use Rattle.field_words.specs.Words.{first_place, equals_sign, is_equals}
+use Rattle.field_words.specs.Words.{first_place}
 
 pub first_within : {A : Type 0} (p : A → Bool) (s : List A) → first_place p s ≤ length s
 unfolding first_place
@@ -41,38 +42,39 @@ first_after p [] x t e h = rw h
 first_after p (y ∷ s) x t e h =
     rw (not-true (p y) (and_left (not (p y)) (all (λ z. not (p z)) s) e)) (ap suc (first_after p s x t (and_right (not (p y)) (all (λ z. not (p z)) s) e) h))
 
--- ---- along a list by an index: none before i passed
+-- ---- by std's words
 
-pub record PassedTo {A : Type 0} (p : A → Bool) (s : List A) (i : ℕ) : Type 0 where
-  pub within : i ≤ length s
-  pub left : first_place p s ≡ i + first_place p (drop i s)
+or-len : {A : Type 0} (p : A → Bool) (s : List A) → position_or_len p s ≡ first_place p s
+unfolding first_place
+or-len p [] = refl
+or-len p (x ∷ s) = go (p x) (or-len p s)
+  where
+    go : (t : Bool) → position_or_len p s ≡ first_place p s → cond (not t) (1 + position_or_len p s) 0 ≡ when t 0 (suc (first_place p s))
+    go true h = refl
+    go false h = omega (arith, h)
 
 module _ {A : Type 0} (p : A → Bool) (s : List A) where
-  pub first-none : PassedTo p s 0
-  first-none = record { within = omega arith; left = omega arith }
+  -- std's answer, with the place for it
+  placed : position p s ≡ cond (ltb (first_place p s) (length s)) (Some (first_place p s)) None
+  placed = ap (λ (k : ℕ). cond (ltb k (length s)) (Some k) None) (or-len p s)
 
-  module _ {i : ℕ} (passed : PassedTo p s i) where
-    pub first-stop : (d : A) → i < length s → p (get_or s i d) ≡ true → i ≡ first_place p s
-    unfolding first_place
-    first-stop d h e = let here : first_place p (drop i s) ≡ 0 = rw (drop-cons s i d h, e) in omega (arith, passed.left)
+  abbrev Answers : Option ℕ → Type 0
+  Answers None = length s ≡ first_place p s
+  Answers (Some i) = (i ≡ first_place p s) × (i < length s)
 
-    pub first_turn : (d : A) → i < length s → p (get_or s i d) ≡ false → PassedTo p s (i + 1)
-    unfolding first_place
-    first_turn d h e =
-        let later : first_place p (drop i s) ≡ suc (first_place p (drop (i + 1) s)) = rw (drop-cons s i d h, e, add-one) in
-        record { within = omega arith; left = omega (arith, passed.left) }
+  answers : (o : Option ℕ) → o ≡ position p s → Answers o
+  answers o e = subst Answers (sym (e ∙ placed)) (go (ltb (first_place p s) (length s)) refl)
+    where
+      go : (t : Bool) → ltb (first_place p s) (length s) ≡ t → Answers (cond t (Some (first_place p s)) None)
+      go true h = (refl, ltb-true (first_place p s) (length s) h)
+      go false h = omega (arith, ltb-false (first_place p s) (length s) h, first_within p s)
 
-    pub first_end : length s ≤ i → i ≡ first_place p s
-    unfolding first_place
-    first_end h = let none : first_place p (drop i s) ≡ 0 = rw (drop_of_length-le s h) in omega (arith, passed.left)
+  pub place_some : {i : ℕ} → Some i ≡ position p s → (i ≡ first_place p s) × (i < length s)
+  place_some e = answers (Some _) e
 
--- ---- the same at the first `=`, as the code's search for it has them
+  pub place_none : None ≡ position p s → length s ≡ first_place p s
+  place_none e = answers None e
 
-module _ (word : List ℕ) (i : ℕ) (passed : PassedTo is_equals word i) where
-  pub equals-stop : i < length word → get_or word i 0 ≡ equals_sign → i ≡ first_place is_equals word
-  equals-stop h e = first-stop is_equals word passed 0 h (eq-eqb (get_or word i 0) equals_sign e)
-
-  pub equals_turn : i < length word → (get_or word i 0 ≡ equals_sign → ⊥) → PassedTo is_equals word (i + 1)
-  equals_turn h e = first_turn is_equals word passed 0 h (ne_eqb (get_or word i 0) equals_sign e)
-
-pub ruleset equals_steps = (equals-stop, equals_turn, first_end)
+  pub place_or : (o : Option ℕ) → o ≡ position p s → unwrap_or o (length s) ≡ first_place p s
+  place_or None e = place_none e
+  place_or (Some i) e = (place_some e).0

@@ -1,11 +1,12 @@
 -- The laws of specs/Laws.antt.
 -- Assumes nothing.
-use mathlib.Core.Path.{◌≡◌, refl, ap, ap₂, ◌∙◌}
-use mathlib.Core.Bool.{true, false}
-use mathlib.Core.List.{List, [], ◌∷◌, ◌++◌, append-nil}
+use mathlib.Core.Path.{◌≡◌, refl, sym, ap, ap₂, ◌∙◌}
+use mathlib.Core.Bool.{Bool, true, false, false≢true}
+use mathlib.Core.List.{List, [], ◌∷◌, ◌++◌, map, append-nil}
 use Prim.Native.Nat.{ℕ, zero, suc, ◌+◌, ◌≤◌, min}
 use native.Mathlib.Omega.{arith}
-use lib.ListN.{length, get_or, replicate, drop_of_length-le}
+use lib.ListN.{length, get_or, replicate, drop, drop_of_length-le, length-map}
+use Rattle.std.specs.Prelude.{Option, Some, None, is_some}
 use lib.Seq.{sets, sets-eq, get_or-set_other}
 use Rattle.octets.proofs.Unique.{unique}
 use Rattle.wording.specs.Decimal.{decimal, value_of}
@@ -13,9 +14,9 @@ use Rattle.wording.specs.Number.{greatest}
 use Rattle.wording.proofs.Laws.{decimal_reads}
 use Rattle.wording.proofs.NumberLaws.{decimal_is}
 use Rattle.field_words.specs.Words.{field_name_count}
-use Rattle.field_words.specs.Fields.{none_named, with_field, name_field, name_fields, fields_in}
-use Rattle.field_words.specs.Laws.{NamesOne, FieldBack, field_words, FieldsBack, GoodWords, GoodExactly, FieldOfWord, FieldUnnamed, NoneUnique, NameUnique}
-use Rattle.field_words.specs.declared.Fields.{Fields}
+use Rattle.field_words.specs.Fields.{Fields, none_named, with_field, name_field, name_fields, fields_in}
+use Rattle.field_words.specs.Given.{value_given}
+use Rattle.field_words.specs.Laws.{NamesOne, FieldBack, field_words, FieldsBack, GoodWords, GoodExactly, FieldOfWord, FieldUnnamed, NoneUnique, NameUnique, GivenUnique}
 use Rattle.field_words.proofs.Step.{free_below, unnamed_free}
 use Rattle.field_words.proofs.Taken as taken
 use Rattle.field_words.proofs.Taken.{name_taken}
@@ -90,3 +91,24 @@ none_unique = unique none_named
 
 pub name_unique : NameUnique
 name_unique f word = unique (name_field f word)
+
+-- values and which are named tell what was given
+given-told : (xs ys : List (Option ℕ)) → map value_given xs ≡ map value_given ys → map is_some xs ≡ map is_some ys → xs ≡ ys
+given-told [] [] v n = refl
+given-told [] (y ∷ ys) v n = absurd (let z : ◌≡◌ {A = ℕ} 0 (suc (length ys)) = ap length n ∙ ap suc (length-map ys is_some) in omega arith)
+given-told (x ∷ xs) [] v n = absurd (let z : ◌≡◌ {A = ℕ} (suc (length xs)) 0 = sym (ap suc (length-map xs is_some)) ∙ ap length n in omega arith)
+given-told (x ∷ xs) (y ∷ ys) v n = ap₂ (λ (a : Option ℕ) (l : List (Option ℕ)). a ∷ l) (one x y (ap (λ (l : List ℕ). get_or l 0 0) v) (ap (λ (l : List Bool). get_or l 0 false) n)) (given-told xs ys (ap (drop 1) v) (ap (drop 1) n))
+  where
+    one : (x y : Option ℕ) → value_given x ≡ value_given y → is_some x ≡ is_some y → x ≡ y
+    one None None v n = refl
+    one None (Some y) v n = absurd (false≢true n)
+    one (Some x) None v n = absurd (false≢true (sym n))
+    one (Some x) (Some y) v n = ap Some v
+
+pub given_unique : GivenUnique
+given_unique f None None p q = refl
+given_unique f None (Some g) p q = absurd (false≢true (sym p ∙ sym (ap (λ (h : Fields). h.good) q)))
+given_unique f (Some g) None p q = absurd (false≢true (sym q ∙ sym (ap (λ (h : Fields). h.good) p)))
+given_unique f (Some g) (Some h) p q =
+    ap (λ (l : List (Option ℕ)). Some (record { given = l }))
+    (given-told g.given h.given (ap (λ (k : Fields). k.values) (p ∙ sym q)) (ap (λ (k : Fields). k.named) (p ∙ sym q)))

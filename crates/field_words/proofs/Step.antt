@@ -1,19 +1,24 @@
 -- The fields after a word more, case by case.
 -- Assumes nothing.
 use mathlib.Core.Path.{◌≡◌, refl, sym, ap, ap₂, ◌∙◌}
-use mathlib.Core.Bool.{true, false, not}
+use mathlib.Core.Bool.{Bool, true, false, not}
 use mathlib.Core.List.{List}
 use Prim.Native.Nat.{ℕ, ◌<◌}
 use lib.Dec.{ltb}
-use lib.ListN.{get_or}
+use lib.ListN.{get_or, set}
 use borrow.Author.Tests.{ltb-true, lt-ltb, not-true}
-use Rattle.std.specs.Prelude.{Option, Some, None}
+use Rattle.std.specs.Prelude.{Option, Some, None, is_some, map}
+use Rattle.std.specs.List.{position}
+use Rattle.std.proofs.Math.ListN.{get_or-map}
+use Rattle.std.proofs.lemmas.List.{map-set}
 use Rattle.octets.specs.Same.{same}
 use Rattle.octets.proofs.Tests.{and_left, and_right}
 use Rattle.wording.specs.Number.{number_read}
+use Rattle.field_words.specs.Given.{value_given, fields_of}
+use Rattle.field_words.specs.declared.Fields.{Fields as Given}
+use Rattle.field_words.proofs.First.{place_some, place_none}
 use Rattle.field_words.specs.Words.{first_place, word_name, word_value, field_names, field_name_count}
-use Rattle.field_words.specs.Fields.{spoiled, is_free, with_field, taken_as, name_field}
-use Rattle.field_words.specs.declared.Fields.{Fields}
+use Rattle.field_words.specs.Fields.{Fields, spoiled, is_free, with_field, taken_as, name_field}
 
 module _ (f : Fields) (i : ℕ) where
   pub taken_none : taken_as f i None ≡ spoiled f
@@ -48,3 +53,47 @@ pub named_as : (f : Fields) (word : List ℕ) {name value : List ℕ} {i : ℕ} 
 unfolding name_field
 named_as f word names number values reads =
     ap₂ (taken_as f) (ap (λ (s : List ℕ). first_place (same s) field_names) (sym names) ∙ sym number) (ap number_read (sym values) ∙ sym reads)
+
+-- a number that is no field's
+pub taken_past : (f : Fields) (o : Option ℕ) → taken_as f field_name_count o ≡ spoiled f
+unfolding taken_as is_free
+taken_past f None = refl
+taken_past f (Some n) = refl
+
+-- ---- the same of the fields that the code has
+
+module _ (f : Given) (word : List ℕ) {name : List ℕ} (names : name ≡ word_name word) where
+  pub unlisted : None ≡ position (same name) field_names → (name_field (fields_of f) word).good ≡ false
+  unfolding field_names
+  unlisted e =
+      ap (λ (g : Fields). g.good)
+      (named_as (fields_of f) word names (place_none (same name) field_names e) refl refl ∙ taken_past (fields_of f) (number_read (word_value word)))
+
+  module _ {i : ℕ} (number : Some i ≡ position (same name) field_names) {value : List ℕ} (values : value ≡ word_value word) where
+    pub listed : i < field_name_count
+    unfolding field_names
+    listed = (place_some (same name) field_names number).1
+
+    taken : {o : Option ℕ} → o ≡ number_read value → name_field (fields_of f) word ≡ taken_as (fields_of f) i o
+    taken reads = named_as (fields_of f) word names (place_some (same name) field_names number).0 values reads
+
+    pub unread : None ≡ number_read value → (name_field (fields_of f) word).good ≡ false
+    unread e = ap (λ (g : Fields). g.good) (taken e ∙ taken_none (fields_of f) i)
+
+    -- whether the field has a value
+    named : get_or (map is_some f.given) i false ≡ is_some (get_or f.given i None)
+    named = get_or-map is_some f.given i None
+
+    module _ {n : ℕ} (reads : Some n ≡ number_read value) where
+      pub named_before : is_some (get_or f.given i None) ≡ true → (name_field (fields_of f) word).good ≡ false
+      unfolding is_free
+      named_before e =
+          let before : is_free (fields_of f) i ≡ false = rw (named, e, lt-ltb i field_name_count listed) in
+          ap (λ (g : Fields). g.good) (taken reads ∙ taken_twice (fields_of f) i n before)
+
+      pub named_now : is_some (get_or f.given i None) ≡ false → fields_of (record { given = set f.given i (Some n) }) ≡ name_field (fields_of f) word
+      unfolding is_free
+      named_now e =
+          let free : is_free (fields_of f) i ≡ true = rw (named, e, lt-ltb i field_name_count listed) in
+          ap₂ (λ (v : List ℕ) (m : List Bool). record { values = v; named = m; good = true }) (map-set value_given f.given i (Some n)) (map-set is_some f.given i (Some n))
+          ∙ sym (taken reads ∙ taken_free (fields_of f) i n free)

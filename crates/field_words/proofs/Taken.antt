@@ -10,9 +10,8 @@ use Rattle.wording.specs.Decimal.{value_of}
 use Rattle.wording.specs.Number.{greatest, number_read}
 use Rattle.wording.proofs.NumberLaws.{number_exactly}
 use Rattle.field_words.specs.Words.{word_value, field_number}
-use Rattle.field_words.specs.Fields.{spoiled, is_free, with_field, taken_as, name_field}
+use Rattle.field_words.specs.Fields.{Fields, spoiled, is_free, with_field, taken_as, name_field}
 use Rattle.field_words.specs.Laws.{Names, NamesOne}
-use Rattle.field_words.specs.declared.Fields.{Fields}
 use Rattle.field_words.proofs.Cut.{value-cut, number_cut, parts_name}
 use Rattle.field_words.proofs.Step.{taken_none, taken_twice, taken_free, free_below}
 

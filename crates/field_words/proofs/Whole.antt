@@ -11,9 +11,8 @@ use lib.Seq.{get_or-set_same, get_or-set_other}
 use Rattle.wording.specs.Decimal.{value_of}
 use Rattle.wording.specs.Number.{greatest}
 use Rattle.field_words.specs.Words.{field_name_count}
-use Rattle.field_words.specs.Fields.{spoiled, is_free, name_field, name_fields}
+use Rattle.field_words.specs.Fields.{Fields, spoiled, is_free, name_field, name_fields}
 use Rattle.field_words.specs.Laws.{Names}
-use Rattle.field_words.specs.declared.Fields.{Fields}
 use Rattle.field_words.proofs.Step.{free_below, free_unnamed, unnamed_free}
 use Rattle.field_words.proofs.Taken.{name_taken, names-one, Took, took_or-spoiled}
 

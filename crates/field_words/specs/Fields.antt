@@ -4,7 +4,12 @@ use Rattle.std.specs.Prelude.{ℕ, Bool, true, false, not, ◌&&◌, List, [], �
 use Rattle.octets.specs.Lent.{when}
 use Rattle.wording.specs.Number.{number_read}
 use Rattle.field_words.specs.Words.{word_value, field_name_count, field_number}
-use Rattle.field_words.specs.declared.Fields.{Fields}
+
+-- the fields' values, which of them were named, and whether all words were good
+pub record Fields : Type 0 where
+  pub values : List ℕ
+  pub named : List Bool
+  pub good : Bool
 
 -- before the first word
 abbrev pub none_named : Fields

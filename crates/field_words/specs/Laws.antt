@@ -1,12 +1,13 @@
 -- What reading fields from words promises, as statements; proofs/Laws.antt proves each.
 -- Assumes nothing.
-use Rattle.std.specs.Prelude.{◌≡◌, ◌↔◌, true, List, [], ◌∷◌, ℕ, suc, ◌≤◌, ◌<◌, min, length, get_or, replicate}
+use Rattle.std.specs.Prelude.{◌≡◌, ◌↔◌, true, List, [], ◌∷◌, ℕ, suc, ◌≤◌, ◌<◌, min, length, get_or, replicate, Option}
 use Rattle.octets.specs.Unique.{Unique}
 use Rattle.wording.specs.Decimal.{decimal, value_of}
 use Rattle.wording.specs.Number.{greatest, is_decimal}
 use Rattle.field_words.specs.Words.{field_name_count, field_word}
-use Rattle.field_words.specs.Fields.{none_named, is_free, with_field, name_field, fields_in}
-use Rattle.field_words.specs.declared.Fields.{Fields}
+use Rattle.field_words.specs.Given.{FieldsSay}
+use Rattle.field_words.specs.declared.Fields.{Fields as Given}
+use Rattle.field_words.specs.Fields.{Fields, none_named, is_free, with_field, name_field, fields_in}
 
 -- ---- a word
 
@@ -64,3 +65,7 @@ NoneUnique = Unique none_named
 
 abbrev pub NameUnique : Type 0
 NameUnique = (f : Fields) (word : List ℕ) → Unique (name_field f word)
+
+-- so what the code gives back is one answer too
+abbrev pub GivenUnique : Type 0
+GivenUnique = (f : Fields) (x y : Option Given) → FieldsSay x f → FieldsSay y f → x ≡ y

@@ -3,10 +3,12 @@
 
 mod words;
 
-ghost use Rattle.std.specs.Prelude.{◌≡◌, [], ◌<◌, get_or};
+ghost use Rattle.std.specs.Prelude.{◌≡◌};
+ghost use Rattle.std.specs.List.{position};
 ghost use Rattle.octets.specs.Same.{same};
-ghost use Rattle.field_words.specs.Words.{first_place, field_names, field_name_count};
-ghost use Rattle.field_words.specs.Fields.{none_named, spoiled, is_free, with_field, name_field};
+ghost use Rattle.field_words.specs.Words.{field_names};
+ghost use Rattle.field_words.specs.Fields.{none_named, name_field};
+ghost use Rattle.field_words.specs.Given.{fields_of, FieldsSay};
 
 use octets::strings::equal;
 use wording::decimal;
@@ -15,97 +17,70 @@ use words::{name_in, value_in};
 // How many fields of a page are a caller's to choose.
 const FIELD_COUNT: usize = 12;
 
-// The fields' values, which of them were named, and whether all words were good.
+// Their names, in the order in which a page is read.
+const FIELD_NAMES: [&str; FIELD_COUNT] = [
+    "scope",
+    "lock",
+    "ceem",
+    "rdmc",
+    "sdk",
+    "ckod",
+    "ckorp",
+    "ckorl",
+    "encrypt",
+    "decrypt",
+    "algorithm",
+    "format",
+];
+
+// What a word gave each field, and none where no word named it.
 #[derive(Clone, Copy)]
 pub struct Fields {
-    pub values: [u64; FIELD_COUNT],
-    pub named: [bool; FIELD_COUNT],
-    pub good: bool,
+    pub given: [Option<u64>; FIELD_COUNT],
 }
 
-// Whether field i has the name.
-fn has_name(i: usize, name: &[u8]) -> bool
-    requires { i < field_name_count }
-    ensures { result ≡ same name.now (get_or field_names i []) }
-{
-    match i {
-        0 => equal(name, b"scope"),
-        1 => equal(name, b"lock"),
-        2 => equal(name, b"ceem"),
-        3 => equal(name, b"rdmc"),
-        4 => equal(name, b"sdk"),
-        5 => equal(name, b"ckod"),
-        6 => equal(name, b"ckorp"),
-        7 => equal(name, b"ckorl"),
-        8 => equal(name, b"encrypt"),
-        9 => equal(name, b"decrypt"),
-        10 => equal(name, b"algorithm"),
-        _ => equal(name, b"format"),
+impl Fields {
+    // Each field's value: 0 where no word named it.
+    pub fn values(self) -> [u64; FIELD_COUNT]
+        ensures { result ≡ (fields_of self).values }
+    {
+        self.given.map(|value| value.unwrap_or(0))
     }
 }
 
-// The number of the field that has the name, and 12 where none has.
-fn field_number(name: &[u8]) -> usize
-    ensures { result ≡ first_place (same name.now) field_names }
+// The place of a name among others.
+fn place_in(names: &[&str], name: &[u8]) -> Option<usize>
+    ensures { result ≡ position (λ n. same name.now n.now) names.now }
 {
-    let mut i = 0;
-    while i < FIELD_COUNT {
-        if has_name(i, name) {
-            return i;
-        }
-        i += 1;
-    }
-    i
+    names.iter().position(|n| equal(name, n.as_bytes()))
 }
 
-fn spoil(mut f: Fields) -> Fields
-    ensures { result ≡ spoiled f }
+// The number of the field that has the name.
+fn field_number(name: &[u8]) -> Option<usize>
+    ensures { result ≡ position (same name.now) field_names }
 {
-    f.good = false;
-    f
-}
-
-// Whether there is a field i, and no word named it yet.
-fn is_free(f: Fields, i: usize) -> bool
-    ensures { result ≡ is_free f i }
-{
-    if i < FIELD_COUNT {
-        return !f.named[i];
-    }
-    false
-}
-
-fn set_field(mut f: Fields, i: usize, value: u64) -> Fields
-    requires { i < field_name_count }
-    ensures { result ≡ with_field f i value }
-{
-    f.values[i] = value;
-    f.named[i] = true;
-    f
+    place_in(&FIELD_NAMES, name)
 }
 
 // Before the first word: each field is 0.
 pub fn none_named() -> Fields
-    ensures { result ≡ none_named }
+    ensures { fields_of result ≡ none_named }
 {
     Fields {
-        values: [0; FIELD_COUNT],
-        named: [false; FIELD_COUNT],
-        good: true,
+        given: [None; FIELD_COUNT],
     }
 }
 
-// The fields after a word more. One that is no NAME=VALUE with a name of a page's field and a number in decimal digits, or whose name came before,
-// spoils them.
-pub fn name_field(f: Fields, word: &[u8]) -> Fields
-    ensures { result ≡ name_field f word.now }
+// The fields after a word more. None where it is no NAME=VALUE with a name of a page's field and a number in decimal digits, or where its name came before.
+pub fn name_field(f: Fields, word: &[u8]) -> Option<Fields>
+    ensures { FieldsSay result (name_field (fields_of f) word.now) }
 {
-    let i = field_number(name_in(word));
-    let Some(n) = decimal::read(value_in(word)) else {
-        return spoil(f);
-    };
-    if !is_free(f, i) {
-        return spoil(f);
+    let i = field_number(name_in(word))?;
+    let n = decimal::read(value_in(word))?;
+    if f.given[i].is_some() {
+        return None;
     }
-    set_field(f, i, n)
+    let mut named = f;
+    named.given[i] = Some(n);
+    Some(named)
 }

@@ -5,18 +5,10 @@ ghost use Rattle.field_words.specs.Words.{equals_at, word_name, word_value};
 use octets::strings::part;
 
 // Where the first `=` stands, and the word's length where there is none.
-#[tactic(auto, using(crate::proofs::First::equals_steps))]
 fn equals_at(word: &[u8]) -> usize
     ensures { result ≡ equals_at word.now }
 {
-    let mut i = 0;
-    while i < word.len() {
-        if word[i] == b'=' {
-            return i;
-        }
-        i += 1;
-    }
-    i
+    word.iter().position(|c| *c == b'=').unwrap_or(word.len())
 }
 
 pub(crate) fn name_in(word: &[u8]) -> &[u8]

@@ -1,33 +1,32 @@
 -- `field_words::name_field` meets its contract: each return by what was found before it.
 -- Assumes nothing.
-use mathlib.Core.Path.{◌≡◌, sym, ◌∙◌}
-use Prim.Native.Nat.{ℕ}
-use Rattle.std.specs.Prelude.{Option}
-use Rattle.field_words.specs.Fields.{taken_as, name_field}
-use Rattle.field_words.proofs.Step.{taken_none, taken_twice, taken_free, free_below, named_as}
-use Rattle.field_words.proofs.name_field.Goals.{After-read}
+use mathlib.Core.Path.{sym, ◌∙◌}
+use native.Mathlib.Omega.{arith}
+use Rattle.field_words.proofs.Step.{unlisted, listed, unread, named_before, named_now}
 use Rattle.field_words.proofs.name_field.Goals as goal
 
-module _ (c : After-read) {o : Option ℕ} where
-  by_reading : c.read.result ≡ o → name_field c.args.f c.args.word.now ≡ taken_as c.args.f c.field_number-i.result o
-  by_reading is = named_as c.args.f c.args.word.now c.name_in.ensures c.field_number-i.ensures c.value_in.ensures (sym is ∙ c.read.ensures)
+pub returns-in_err-i : goal.returns-in_err-i
+returns-in_err-i c = rw c.from_residual.ensures (unlisted c.args.f c.args.word.now c.name_in.ensures c.in_err-i.ensures)
 
-pub returns-in_default : goal.returns-in_default
-returns-in_default c =
-    c.spoil.ensures
-    ∙ sym (by_reading (goal.at.returns-in_default c).After-read c.in_default.is ∙ taken_none c.args.f c.field_number-i.result)
+pub returns-in_err-n : goal.returns-in_err-n
+returns-in_err-n c = rw c.from_residual-in_err-n.ensures (unread c.args.f c.args.word.now c.name_in.ensures c.in_ok-i.ensures c.value_in.ensures c.in_err-n.ensures)
 
-pub returns-then-not-is_free : goal.returns-then-not-is_free
-returns-then-not-is_free c =
-    let other = sym c.is_free.ensures ∙ c.if-not-is_free.true in
-    c.spoil-then-not-is_free.ensures
-    ∙ sym (by_reading (goal.at.returns-then-not-is_free c).After-read c.in-Some.is ∙ taken_twice c.args.f c.field_number-i.result _ other)
+pub offset_bounds-f-i : goal.offset_bounds-f-i
+offset_bounds-f-i c = let h = listed c.args.f c.args.word.now c.name_in.ensures c.in_ok-i.ensures c.value_in.ensures in omega arith
 
-pub set_field-requires : goal.set_field-requires
-set_field-requires c = free_below _ _ (sym c.is_free.ensures ∙ c.if-not-is_free.false)
+pub bounds-f-i : goal.bounds-f-i
+bounds-f-i c = listed c.args.f c.args.word.now c.name_in.ensures c.in_ok-i.ensures c.value_in.ensures
+
+pub returns-then-is_some : goal.returns-then-is_some
+returns-then-is_some c =
+    named_before c.args.f c.args.word.now c.name_in.ensures c.in_ok-i.ensures c.value_in.ensures c.in_ok-n.ensures (sym c.is_some.ensures ∙ c.if-is_some.true)
+
+pub offset_bounds-named-i : goal.offset_bounds-named-i
+offset_bounds-named-i c = let h = listed c.args.f c.args.word.now c.name_in.ensures c.in_ok-i.ensures c.value_in.ensures in omega arith
+
+pub bounds-named-i : goal.bounds-named-i
+bounds-named-i c = listed c.args.f c.args.word.now c.name_in.ensures c.in_ok-i.ensures c.value_in.ensures
 
 pub returns : goal.returns
 returns c =
-    let free = sym c.is_free.ensures ∙ c.if-not-is_free.false in
-    c.set_field.ensures
-    ∙ sym (by_reading (goal.at.returns c).After-read c.in-Some.is ∙ taken_free c.args.f c.field_number-i.result _ free)
+    named_now c.args.f c.args.word.now c.name_in.ensures c.in_ok-i.ensures c.value_in.ensures c.in_ok-n.ensures (sym c.is_some.ensures ∙ c.if-is_some.false)
