@@ -33,7 +33,7 @@ impl<'a> Table<'a> {
         Ok(Table { bytes: t })
     }
 
-    // The place of the row of a type and a whole name.
+    // The place of the row of a type and a whole name. Document 01 has a lookup's answer taken apart by `let .. else`, so no caller uses `?` on it.
     fn find(self, kind: usize, name: &[u8]) -> Option<usize>
         ensures { let row = row_for self.entry.bytes.now kind name.now in
             MatchOption result (row ≡ none) (λ at. (row ≡ some (row_at self.entry.bytes.now at)) × (length (row_at self.entry.bytes.now at).row_key ≡ row_key_size)) }

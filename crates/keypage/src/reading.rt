@@ -29,8 +29,6 @@ pub const LIST_OPENING: Opening = Opening {
     strict: PAGE_STRICT,
 };
 
-pub const LIST_STRICT: bool = PAGE_STRICT;
-
 // How many descriptors of a page's list are not reserved, where the list is accepted.
 fn list_count(list: &[u8]) -> Result<usize, Refusal>
     ensures ok { is_ok result ≡ page_list_ok list.now }

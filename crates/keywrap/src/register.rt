@@ -18,7 +18,7 @@ pub(crate) fn eight_at(s: &[u8], at: usize) -> Part
     *s[at..].first_chunk().unwrap()
 }
 
-// What wrapping starts from: the initial value and the key's parts.
+// What wrapping starts from: the initial value and the key's parts. Not one function with the next: the first part and every place differ.
 pub(crate) fn from_key(key: &[u8]) -> Register
     requires { length key.now ≡ 32 }
     ensures { result ≡ start_value ∷ parts 4 key.now }

@@ -1,4 +1,5 @@
 // The 24 steps of wrapping (2.2.1) and of unwrapping (2.2.2), index-based, with the schedule and the register by value.
+// The two ways stay two, as the specification has them: their steps make other calls in another order, and one that took both as closures would be no shorter.
 ghost use Rattle.std.specs.Prelude.{◌≡◌, ◌<◌};
 ghost use Rattle.keywrap.specs.Wrap.{part_at, wrap_step, wrap_steps, unwrap_step, unwrap_steps};
 
