@@ -9,6 +9,10 @@ use lib.ListN.{length, get_or, take, drop, length-append, take-append-drop}
 use lib.Seq.{take-suc, drop-cons}
 use borrow.Author.Tests.{lt-ltb, le-ltb, ne_eqb}
 use Rattle.wording.specs.Decimal.{decimal}
+use lib.Dec.{lit<}
+use Rattle.refusals.specs.Numbers.{number_of}
+use Rattle.refusals.specs.declared.Refusal.{Refusal}
+use Rattle.refusals.specs.declared.Refusal.TheVariants.{TableLayout, Layout, NotPermitted, PastMaximum, NoRoom, NoRow, OtherUse, WrappedLength, WrongTag, SessionSpent, CounterRunsOver}
 use Rattle.std.specs.Borrow.{Bor}
 use Rattle.wording.specs.Lines.{line, refused_line}
 use Rattle.wording.proofs.DecimalDigits.{length_decimal64}
@@ -91,3 +95,16 @@ lines_fit f h = simp length-append (omega (
   where
     digits : (k : ℕ) → length (decimal (get_or f k 0)) ≤ 20
     digits k = length_decimal64 (get_or f k 0) (h k)
+
+pub number_small : (e : Refusal) → number_of e < 2 ^ 64
+number_small TableLayout = lit< tt
+number_small Layout = lit< tt
+number_small NotPermitted = lit< tt
+number_small PastMaximum = lit< tt
+number_small NoRoom = lit< tt
+number_small NoRow = lit< tt
+number_small OtherUse = lit< tt
+number_small WrappedLength = lit< tt
+number_small WrongTag = lit< tt
+number_small SessionSpent = lit< tt
+number_small CounterRunsOver = lit< tt

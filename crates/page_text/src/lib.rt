@@ -2,6 +2,8 @@
 #![tactic(auto)]
 
 ghost use Rattle.std.specs.Prelude.{◌≡◌, ◌≤◌, length};
+ghost use Rattle.refusals.specs.Numbers.{number_of};
+ghost use Rattle.wording.specs.Lines.{refused_line};
 ghost use Rattle.wording.specs.Writer.{Adds};
 ghost use Rattle.page_text.specs.Listing.{lines_in, lines_said, listing, listing_max, listing_answer};
 
@@ -9,10 +11,8 @@ use refusals::Refusal;
 use wording::text::Text;
 use wording::writing::Writer;
 
-// The longest page, and the number for a longer one.
+// The longest page.
 const PAGE_MAX: usize = 4096;
-
-const TOO_LONG: u64 = 4;
 
 // How many fields a page has, as it is read.
 const FIELD_COUNT: usize = 14;
@@ -65,21 +65,25 @@ fn put_fields(writer: &mut Writer<'_>, fields: [u64; FIELD_COUNT]) -> Result<(),
     )
 }
 
+fn put_refused(writer: &mut Writer<'_>, refusal: Refusal) -> Result<(), Refusal>
+    ensures { Adds (refused_line (number_of refusal)) writer.old writer.new result }
+{
+    writer.put_line(b"refused", refusal.number() as u64)
+}
+
 // Over 4,096 bytes there is no other test.
 fn put_listing(writer: &mut Writer<'_>, input: &[u8]) -> Result<(), Refusal>
     ensures text { Adds (listing input.now) writer.old writer.new result }
     ensures has_room { length (listing input.now) ≤ listing_max }
 {
     if PAGE_MAX < input.len() {
-        return writer.put_line(b"refused", TOO_LONG);
+        return put_refused(writer, Refusal::PastMaximum);
     }
     let mut fields = [0u64; FIELD_COUNT];
-    let number = keypage::reading::read(input, &mut fields);
-    let refused = number != 0;
-    if refused {
-        return writer.put_line(b"refused", number as u64);
+    match keypage::reading::read(input, &mut fields) {
+        Ok(()) => put_fields(writer, fields),
+        Err(refusal) => put_refused(writer, refusal),
     }
-    put_fields(writer, fields)
 }
 
 // The text that document 01's page lister prints for an input, which always has room.

@@ -1,9 +1,7 @@
 -- `page_text::put_lines` meets its contract: after i turns the first i lines are written.
 -- Assumes nothing.
-use mathlib.Core.Path.{sym}
 use Rattle.std.proofs.lemmas.Result.{err_from_is_err_and}
 use Rattle.wording.proofs.Puts.{adds, adds_then, adds_stop}
-use Rattle.page_text.specs.Listing.{lines_said}
 use Rattle.page_text.proofs.Listing.{lines_turn, lines_parted}
 use Rattle.page_text.proofs.put_lines.Goals as goal
 

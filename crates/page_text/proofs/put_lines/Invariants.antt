@@ -1,4 +1,3 @@
-use mathlib.Core.Path.{◌≡◌}
 use lib.ListN.{take}
 use Rattle.std.specs.Prelude.{Ok}
 use Rattle.wording.specs.Writer.{Adds}
