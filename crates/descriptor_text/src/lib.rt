@@ -27,7 +27,7 @@ const ZERO_SIZE: usize = 2;
 // Room for the text of any list of 4,096 bytes.
 const ROOM: usize = 12288;
 
-// The text of a list that is accepted, as far as the room reaches.
+// Writes the text of a list that is accepted: the count, and a line for each descriptor that the reader shows.
 fn put_list(writer: &mut Writer<'_>, list: &[u8], opening: Opening) -> Result<(), Refusal>
     requires { list_ok opening.label opening.strict list.now ≡ true }
     ensures { Adds (list_text opening.label list.now) writer.old writer.new result }
@@ -40,7 +40,7 @@ fn put_list(writer: &mut Writer<'_>, list: &[u8], opening: Opening) -> Result<()
     Ok(())
 }
 
-// The same by value; of a list of 4,096 bytes it always has room.
+// That text by value; of a list of 4,096 bytes it always has room.
 fn describe(list: &[u8], opening: Opening) -> Text<ROOM>
     requires { (list_ok opening.label opening.strict list.now ≡ true) × (length list.now ≤ label_max) }
     ensures { described_as 0 (list_text opening.label list.now) ≡ (0, result.size, result.bytes) }
