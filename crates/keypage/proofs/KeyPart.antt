@@ -8,6 +8,7 @@ use native.Mathlib.Omega.{arith}
 use borrow.Author.Tests.{eqb-true, eqb-false, ne_eqb, ltb-false, le-ltb, leb-true, le-leb, not-false}
 use lib.Dec.{eqb}
 use lib.ListN.{length}
+use Rattle.std.specs.Prelude.{Some, None}
 use Rattle.octets.specs.Lent.{when}
 use Rattle.octets.specs.Tests.{every}
 use Rattle.octets.proofs.Lent.{is_not-false, is_not_right}
@@ -15,12 +16,23 @@ use Rattle.octets.proofs.Tests.{every_at}
 use Rattle.keytable.specs.Row.{name_max, row_key_size, is_kek_type}
 use Rattle.keypage.specs.KeyPart.{plain_format, reference_format, wrapped_format, reference_min, by_format, needs_row}
 use Rattle.keypage.specs.KeyPart.{kek_type, identifier_size_of, identifier_at, wrapped_tests, part_broken, part_refused, part_long}
+use Rattle.keypage.specs.declared.parts.Format.TheVariants.{Plain, Reference, Wrapped}
 use Rattle.keypage.specs.Laws.{PartLaid, plain, reference, wrapped}
 
 -- ---- what format 04h's value has
 
 pub of-wrapped : {A : Type 0} (f : ℕ) (a b c d : A) → f ≡ wrapped_format → by_format f a b c d ≡ c
 of-wrapped f a b c d e = rw e
+
+-- a number that names it
+pub names-wrapped : (f : ℕ) → by_format f (Some Plain) (Some Reference) (Some Wrapped) None ≡ Some Wrapped → f ≡ wrapped_format
+names-wrapped f e = go (eqb f plain_format) (eqb f reference_format) (eqb f wrapped_format) refl e
+  where
+    go : (a b c : Bool) → eqb f wrapped_format ≡ c → when a (Some Plain) (when b (Some Reference) (when c (Some Wrapped) None)) ≡ Some Wrapped → f ≡ wrapped_format
+    go true b c r h = cc
+    go false true c r h = cc
+    go false false true r h = eqb-true f wrapped_format r
+    go false false false r h = cc
 
 -- where all formats but one have the same
 pub not-wrapped : {A : Type 0} (f : ℕ) (one others : A) → (f ≡ wrapped_format → ⊥) → by_format f others others one others ≡ others

@@ -1,5 +1,5 @@
 // Loading the key of a page: every refusal comes before the first write. The KEY part is handed to the reader of its format.
-ghost use Rattle.std.specs.Prelude.{◌≡◌, true, false, ◌≤◌, length, IfErr, IfOk, MatchOption};
+ghost use Rattle.std.specs.Prelude.{◌≡◌, true, false, ℕ, ◌≤◌, length, IfErr, IfOk, MatchOption};
 ghost use Rattle.std.proofs.Math.Option.{some, none};
 ghost use Rattle.refusals.specs.Numbers.{number_of, outcome_number};
 ghost use Rattle.keytable.specs.Row.{row_key_size};
@@ -59,9 +59,9 @@ fn load_reference(table: Table, algorithm: usize, s: &[u8], out: &mut [u8]) -> R
 
 // A wrapped key: its wrapped part is passed on to the unwrapping, with the KEK of that type and identifier. The algorithm index plays no part.
 #[tactic(auto, unfolding(crate::specs::Load::key_loaded))]
-fn load_wrapped(table: Table, algorithm: usize, s: &[u8], out: &mut [u8]) -> Result<(), Refusal>
+fn load_wrapped(table: Table, s: &[u8], out: &mut [u8]) -> Result<(), Refusal>
     requires { row_key_size ≤ length out.old }
-    ensures { part_answer (kek_row table.entry.bytes.now s.now) algorithm wrapped_format s.now out.old ≡ (outcome_number result, out.new) }
+    ensures { (algorithm : ℕ) → part_answer (kek_row table.entry.bytes.now s.now) algorithm wrapped_format s.now out.old ≡ (outcome_number result, out.new) }
 {
     let kind = kek_type(s);
     let Some(at) = table.find(kind, identifier(s)) else {
@@ -84,7 +84,7 @@ fn load_key(table: Table, page: Page, out: &mut [u8]) -> Result<(), Refusal>
             Ok(())
         }
         Format::Reference => load_reference(table, page.algorithm(), s, out),
-        Format::Wrapped => load_wrapped(table, page.algorithm(), s, out),
+        Format::Wrapped => load_wrapped(table, s, out),
     }
 }
 
