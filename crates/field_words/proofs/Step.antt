@@ -14,7 +14,7 @@ use Rattle.std.proofs.lemmas.List.{map-set}
 use Rattle.octets.specs.Same.{same}
 use Rattle.octets.proofs.Tests.{and_left, and_right}
 use Rattle.wording.specs.Number.{number_read}
-use Rattle.field_words.specs.Given.{value_given, fields_of}
+use Rattle.field_words.specs.Given.{value_given, fields_given}
 use Rattle.field_words.specs.declared.Fields.{Fields as Given}
 use Rattle.field_words.proofs.First.{place_some, place_none}
 use Rattle.field_words.specs.Words.{first_place, word_name, word_value, field_names, field_name_count}
@@ -63,37 +63,37 @@ taken_past f (Some n) = refl
 -- ---- the same of the fields that the code has
 
 module _ (f : Given) (word : List ℕ) {name : List ℕ} (names : name ≡ word_name word) where
-  pub unlisted : None ≡ position (same name) field_names → (name_field (fields_of f) word).good ≡ false
+  pub unlisted : None ≡ position (same name) field_names → (name_field (fields_given f) word).good ≡ false
   unfolding field_names
   unlisted e =
       ap (λ (g : Fields). g.good)
-      (named_as (fields_of f) word names (place_none (same name) field_names e) refl refl ∙ taken_past (fields_of f) (number_read (word_value word)))
+      (named_as (fields_given f) word names (place_none (same name) field_names e) refl refl ∙ taken_past (fields_given f) (number_read (word_value word)))
 
   module _ {i : ℕ} (number : Some i ≡ position (same name) field_names) {value : List ℕ} (values : value ≡ word_value word) where
     pub listed : i < field_name_count
     unfolding field_names
     listed = (place_some (same name) field_names number).1
 
-    taken : {o : Option ℕ} → o ≡ number_read value → name_field (fields_of f) word ≡ taken_as (fields_of f) i o
-    taken reads = named_as (fields_of f) word names (place_some (same name) field_names number).0 values reads
+    taken : {o : Option ℕ} → o ≡ number_read value → name_field (fields_given f) word ≡ taken_as (fields_given f) i o
+    taken reads = named_as (fields_given f) word names (place_some (same name) field_names number).0 values reads
 
-    pub unread : None ≡ number_read value → (name_field (fields_of f) word).good ≡ false
-    unread e = ap (λ (g : Fields). g.good) (taken e ∙ taken_none (fields_of f) i)
+    pub unread : None ≡ number_read value → (name_field (fields_given f) word).good ≡ false
+    unread e = ap (λ (g : Fields). g.good) (taken e ∙ taken_none (fields_given f) i)
 
     -- whether the field has a value
     named : get_or (map is_some f.given) i false ≡ is_some (get_or f.given i None)
     named = get_or-map is_some f.given i None
 
     module _ {n : ℕ} (reads : Some n ≡ number_read value) where
-      pub named_before : is_some (get_or f.given i None) ≡ true → (name_field (fields_of f) word).good ≡ false
+      pub named_before : is_some (get_or f.given i None) ≡ true → (name_field (fields_given f) word).good ≡ false
       unfolding is_free
       named_before e =
-          let before : is_free (fields_of f) i ≡ false = rw (named, e, lt-ltb i field_name_count listed) in
-          ap (λ (g : Fields). g.good) (taken reads ∙ taken_twice (fields_of f) i n before)
+          let before : is_free (fields_given f) i ≡ false = rw (named, e, lt-ltb i field_name_count listed) in
+          ap (λ (g : Fields). g.good) (taken reads ∙ taken_twice (fields_given f) i n before)
 
-      pub named_now : is_some (get_or f.given i None) ≡ false → fields_of (record { given = set f.given i (Some n) }) ≡ name_field (fields_of f) word
+      pub named_now : is_some (get_or f.given i None) ≡ false → fields_given (record { given = set f.given i (Some n) }) ≡ name_field (fields_given f) word
       unfolding is_free
       named_now e =
-          let free : is_free (fields_of f) i ≡ true = rw (named, e, lt-ltb i field_name_count listed) in
+          let free : is_free (fields_given f) i ≡ true = rw (named, e, lt-ltb i field_name_count listed) in
           ap₂ (λ (v : List ℕ) (m : List Bool). record { values = v; named = m; good = true }) (map-set value_given f.given i (Some n)) (map-set is_some f.given i (Some n))
-          ∙ sym (taken reads ∙ taken_free (fields_of f) i n free)
+          ∙ sym (taken reads ∙ taken_free (fields_given f) i n free)

@@ -7,10 +7,10 @@ use Rattle.field_words.specs.declared.Fields.{Fields as Given}
 abbrev pub value_given : Option ℕ → ℕ
 value_given v = unwrap_or v 0
 
-abbrev pub fields_of : Given → Fields
-fields_of f = record { values = map value_given f.given; named = map is_some f.given; good = true }
+abbrev pub fields_given : Given → Fields
+fields_given f = record { values = map value_given f.given; named = map is_some f.given; good = true }
 
 -- the fields, where all words were good
 abbrev pub FieldsSay : Option Given → Fields → Type 0
 FieldsSay None f = f.good ≡ false
-FieldsSay (Some g) f = fields_of g ≡ f
+FieldsSay (Some g) f = fields_given g ≡ f

@@ -8,7 +8,7 @@ ghost use Rattle.std.specs.List.{position};
 ghost use Rattle.octets.specs.Same.{same};
 ghost use Rattle.field_words.specs.Words.{field_names};
 ghost use Rattle.field_words.specs.Fields.{none_named, name_field};
-ghost use Rattle.field_words.specs.Given.{fields_of, FieldsSay};
+ghost use Rattle.field_words.specs.Given.{fields_given, FieldsSay};
 
 use octets::strings::equal;
 use wording::decimal;
@@ -42,7 +42,7 @@ pub struct Fields {
 impl Fields {
     // Each field's value: 0 where no word named it.
     pub fn values(self) -> [u64; FIELD_COUNT]
-        ensures { result ≡ (fields_of self).values }
+        ensures { result ≡ (fields_given self).values }
     {
         self.given.map(|value| value.unwrap_or(0))
     }
@@ -64,7 +64,7 @@ fn field_number(name: &[u8]) -> Option<usize>
 
 // Before the first word: each field is 0.
 pub fn none_named() -> Fields
-    ensures { fields_of result ≡ none_named }
+    ensures { fields_given result ≡ none_named }
 {
     Fields {
         given: [None; FIELD_COUNT],
@@ -73,7 +73,7 @@ pub fn none_named() -> Fields
 
 // The fields after a word more. None where it is no NAME=VALUE with a name of a page's field and a number in decimal digits, or where its name came before.
 pub fn name_field(f: Fields, word: &[u8]) -> Option<Fields>
-    ensures { FieldsSay result (name_field (fields_of f) word.now) }
+    ensures { FieldsSay result (name_field (fields_given f) word.now) }
 {
     let i = field_number(name_in(word))?;
     let n = decimal::read(value_in(word))?;
