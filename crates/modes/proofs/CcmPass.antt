@@ -2,10 +2,12 @@
 -- and written nowhere; `written` whether the pass writes, which of a ciphertext are the pads alone.
 -- Assumes nothing.
 use mathlib.Core.Path.{◌≡◌, refl, sym, ap, ap₂, ◌∙◌}
-use mathlib.Core.Bool.{Bool, true, false, false≢true}
+use mathlib.Core.Bool.{Bool, true, false, false≢true, not}
 use mathlib.Core.List.{List, [], ◌∷◌, ◌++◌, append-nil}
-use Prim.Native.Nat.{ℕ, ◌+◌, ◌-◌, ◌≤◌}
+use Prim.Native.Nat.{ℕ, ◌+◌, ◌-◌, ◌≤◌, ◌<◌}
 use native.Mathlib.Omega.{arith}
+use borrow.Author.Tests.{ne_eqb}
+use lib.Dec.{eqb}
 use lib.ListN.{length, take, drop, replicate, length-take, length-drop, length-replicate, drop_of_length-le}
 use lib.Seq.{drop-drop, take_at, drop_at, take_all, length-take-le}
 use Rattle.octets.specs.Xor.{xors}
@@ -16,7 +18,7 @@ use Rattle.octets.proofs.Xor.{zeros-xors, length-xors}
 use Rattle.octets.proofs.Blocks.{cut_nil, cut_short, cut_next, chain_turn}
 use Rattle.octets.proofs.Written.{part-zeros}
 use Rattle.octets.proofs.Tests.{rest_all}
-use Rattle.modes.specs.Counter.{counter_block, ctr, with_pad, plain_block, shown_text}
+use Rattle.modes.specs.Counter.{counter_block, ctr, with_pad, plain_block, shown_text, written}
 use Rattle.modes.proofs.Stream.{length-ctr, ctr_last, ctr_next, Partly, partly_start, partly_block, partly_last}
 
 -- ---- the chain along the plaintext that a ciphertext gives
@@ -88,6 +90,26 @@ pad-put s pad out size short room e =
     ∙ ap₂ (λ (a b : List ℕ). a ++ b) (ap (λ (n : ℕ). take n pad) room) (drop_of_length-le out {i = length pad} (omega arith))
     ∙ append-nil (take (length s) pad)
     ∙ sym (zeros-xors (length s) pad (omega arith))
+
+-- ---- an output that is empty is not written
+
+pub written_some : (out : List ℕ) → (length out ≡ 0 → ⊥) → written out ≡ true
+written_some out some = rw (ne_eqb (length out) 0 some)
+
+pub written_same : (out before : List ℕ) → length out ≡ length before → written out ≡ written before
+written_same out before e = ap (λ (n : ℕ). not (eqb n 0)) e
+
+pub written_fits : (out : List ℕ) (n : ℕ) → (0 < length out → n ≤ length out) → written out ≡ true → n ≤ length out
+written_fits [] n fits e = absurd (false≢true e)
+written_fits (x ∷ out) n fits e = fits (omega arith)
+
+pub over_none : (s out before : List ℕ) → length out ≡ 0 → length out ≡ length before → out ≡ over s before
+over_none s [] [] e same = sym (drop_of_length-le [] {i = length s} (omega arith))
+over_none s [] (y ∷ before) e same = absurd (omega arith)
+over_none s (x ∷ out) before e same = absurd (omega arith)
+
+pub over_some : (s out : List ℕ) → written out ≡ true → when (written out) (over s out) out ≡ over s out
+over_some s out e = rw e
 
 -- ---- the pass while it runs: the blocks before place `at` are chained to y, and where the pass writes they are written; counter k comes next
 
@@ -171,12 +193,7 @@ module _ (f : List ℕ → List ℕ) (size : (x : List ℕ) → length (f x) ≡
         rest true = rest-counted s at k short ep ∙ ap (ctr f w front k) (rest_all s at)
         rest false = rest_all s at
 
-    -- the output after it, where nothing is written, and where what is left is lent and comes back
-    pub passed_unwritten : (opening written : Bool) → written ≡ false → Passed opening written f w front y₀ s before y at k out
-        → out ≡ when written (over (ctr f w front 1 (shown_text opening s)) before) before
-    passed_unwritten opening true e p = absurd (false≢true (sym e))
-    passed_unwritten opening false e p = p.output
-
+    -- the output after it, where what is left is lent and comes back
     pub passed-written : (opening written : Bool) → written ≡ true → Passed opening written f w front y₀ s before y at k out
         → (written ≡ true → length s ≤ length before) → length s - at ≤ 16 → {pad ys : List ℕ} → pad ≡ f (counter_block w front k)
         → ys ≡ xors (shown_text opening (take (length s - at) (drop at s))) pad

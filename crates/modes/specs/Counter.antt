@@ -1,6 +1,6 @@
 -- Counter mode, which CCM and GCM share. A counter block is a front and a counter field of w bytes: w is 3 in CCM (SP 800-38C, appendix A.3) and 4 in GCM (SP 800-38D, section 7.1).
 -- Assumes nothing.
-use Rattle.std.specs.Prelude.{ℕ, ◌+◌, ◌-◌, ◌^◌, Bool, not, List, [], ◌∷◌, ◌++◌, leb, length, take, drop, replicate}
+use Rattle.std.specs.Prelude.{ℕ, ◌+◌, ◌-◌, ◌^◌, Bool, not, List, [], ◌∷◌, ◌++◌, eqb, leb, length, take, drop, replicate}
 use Rattle.octets.specs.Values.{values}
 use Rattle.octets.specs.BigEndian.{be}
 use Rattle.octets.specs.Xor.{xors}
@@ -30,6 +30,10 @@ plain_block opening s at pad = when opening (xors (take 16 (drop at s)) pad) (ta
 -- what a pass adds the pads to where it writes: the string that is sealed, and zeros where it is opened, which leaves the pads themselves
 abbrev pub shown_text : Bool → List ℕ → List ℕ
 shown_text opening s = when opening (replicate (length s) 0) s
+
+-- whether a pass writes: where its output is not empty
+abbrev pub written : List ℕ → Bool
+written out = not (eqb (length out) 0)
 
 -- document 01: 11 where the counter field would run over
 abbrev pub counter_fits : ℕ → ℕ → ℕ → Bool

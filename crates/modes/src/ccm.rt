@@ -12,7 +12,7 @@ ghost use Rattle.modes.specs.Ccm.{flags, data_blocks, chain_start, counter_front
 use crate::cipher::Cipher;
 use crate::counter::KeyStream;
 use crate::message::Message;
-use crate::passes::pass;
+use crate::passes::{Opening, Sealing, pass};
 use crate::short::open_short;
 use crate::sizes::{IV_SIZE, SHORT};
 use crate::tag::check_tag;
@@ -93,7 +93,7 @@ pub(crate) fn seal(aes: Cipher, m: Message, out: &mut [u8]) -> Result<(), Refusa
         base: base_of(m.iv),
     };
     let begun = chain_start(pads, m);
-    let z = pass(pads, begun.chain, m.text, out, false, true);
+    let z = pass::<Sealing>(pads, begun.chain, m.text, out);
     let tag = xor_blocks(z, begun.pad);
     put(&mut out[n..], &tag);
     Ok(())
@@ -109,7 +109,7 @@ pub(crate) fn verify(aes: Cipher, m: Message, tag: &[u8]) -> Result<(), Refusal>
         base: base_of(m.iv),
     };
     let begun = chain_start(pads, m);
-    let z = pass(pads, begun.chain, m.text, &mut [], true, false);
+    let z = pass::<Opening>(pads, begun.chain, m.text, &mut []);
     let right = xor_blocks(z, begun.pad);
     check_tag(tag, &right)
 }

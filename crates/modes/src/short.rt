@@ -8,7 +8,7 @@ ghost use Rattle.modes.specs.Counter.{counter_block, front_of};
 ghost use Rattle.modes.specs.Within.{short_max, opened_from};
 
 use crate::counter::KeyStream;
-use crate::passes::pass;
+use crate::passes::{Opening, pass};
 use crate::sizes::SHORT;
 use crate::tag::check_tag;
 use octets::strings::{Block, xor_blocks};
@@ -38,7 +38,7 @@ pub(crate) fn open_short(
 {
     let n = c.len();
     let mut kept = [0; SHORT];
-    let z = pass(pads, y, c, &mut kept, true, true);
+    let z = pass::<Opening>(pads, y, c, &mut kept);
     let right = xor_blocks(z, s0);
     check_tag(tag, &right)?;
     put_sum(out, c, &kept[..n]);

@@ -11,7 +11,7 @@ use Rattle.aes_fast.proofs.Laws.{ready-cipher, halves-length, halves_bytes, bloc
 use Rattle.modes.proofs.passes.pass_block.Goals as goal
 
 pub returns-clause-one_value : goal.returns-clause-one_value
-returns-clause-one_value c =
+returns-clause-one_value g c =
     let a = c.args in
     let sum = c.add_halves in
     c.encrypt_beside.ensures.0
@@ -19,6 +19,6 @@ returns-clause-one_value c =
     ∙ ap (cipher a.aes.keyed.keys.now)
     (sum.ensures
     ∙ ap (xors (halves_block a.y))
-    (c.plain_block-plain.ensures
-    ∙ ap (λ (b : List ℕ). when a.opening (xors b (halves_block a.pad)) b)
+    (c.plain-plain.ensures
+    ∙ ap (λ (b : List ℕ). when g.D.Direction.opening (xors b (halves_block a.pad)) b)
     (c.halves_at.ensures ∙ block_at-whole a.text.now a.at c.requires.0)))

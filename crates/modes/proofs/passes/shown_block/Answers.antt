@@ -1,9 +1,0 @@
--- `modes::passes::shown_block` meets its contract: by the direction.
--- Assumes nothing.
-use Rattle.modes.proofs.passes.shown_block.Goals as goal
-
-pub returns-then-opening : goal.returns-then-opening
-returns-then-opening c = rw c.if-opening.true
-
-pub returns : goal.returns
-returns c = rw c.if-opening.false c.add_halves.ensures
