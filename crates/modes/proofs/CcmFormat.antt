@@ -2,12 +2,12 @@
 -- Assumes nothing.
 use mathlib.Core.Path.{◌≡◌, refl, sym, ap, ap₂, ◌∙◌}
 use mathlib.Core.Bool.{Bool, true, false, not, false≢true}
-use mathlib.Core.List.{List, [], ◌∷◌, ◌++◌, append-nil}
+use mathlib.Core.List.{List, [], ◌∷◌, ◌++◌}
 use Prim.Native.Nat.{ℕ, suc, ◌+◌, ◌-◌, ◌%◌, ◌≤◌}
 use native.Mathlib.Omega.{arith}
 use borrow.Author.Tests.{eq-eqb, ne_eqb}
 use lib.Dec.{eqb, lit<, lit≤}
-use lib.ListN.{length, set, take, drop, replicate, length-append}
+use lib.ListN.{length, set, take, drop, length-append}
 use lib.Seq.{take_at}
 use Rattle.octets.specs.BigEndian.{be}
 use Rattle.octets.specs.Bytes.{Bytes}
@@ -26,7 +26,7 @@ use Rattle.modes.specs.Counter.{counter_block, ctr, counter_answer, front_of}
 use Rattle.modes.specs.Ccm.{flags, first_block, data_blocks, mac, counter_front, first_pad, ccm_text, ccm_tag, ccm_tag_right}
 use Rattle.modes.proofs.Limits.{counter_fits_three, counter_answer_fits}
 use Rattle.modes.proofs.Stream.{length-ctr, ctr-ctr, bytes-ctr}
-use Rattle.octets.proofs.Lent.{over_fits, over_then}
+use Rattle.octets.proofs.Lent.{over_then}
 
 -- ---- the first block and the counter blocks' front
 
@@ -38,11 +38,6 @@ first_block-parts iv a b n = rw (length-append a b)
 pub first_stored : (base : List ℕ) (n v : ℕ) → length base ≡ 16 → set (counter_block 3 (front_of false base) n) 0 v ≡ v ∷ (drop 1 (front_of false base) ++ be 3 n)
 first_stored [] n v size = absurd (omega arith)
 first_stored (x ∷ base) n v size = refl
-
--- the nonce over zeros, after the flags
-pub front_stored : (iv : List ℕ) {ys : List ℕ} → length iv ≡ 12 → ys ≡ over iv (replicate 15 0) → 2 ∷ (ys ++ []) ≡ counter_front iv ++ be 3 0
-front_stored iv {ys} size e =
-    ap (λ (l : List ℕ). 2 ∷ l) (append-nil ys ∙ e ∙ over_fits iv (replicate 15 0) (omega arith) ∙ ap (λ (n : ℕ). iv ++ drop n (replicate 15 0)) size)
 
 pub front_base : (iv : List ℕ) → length iv ≡ 12 → front_of false (counter_front iv ++ be 3 0) ≡ counter_front iv
 front_base iv size = take_at (counter_front iv) (be 3 0) 13 (ap suc size)

@@ -44,9 +44,6 @@ module _ (f : List ℕ → List ℕ) (size : (x : List ℕ) → length (f x) ≡
     pads_sum : xors c (take (length c) kept) ≡ ctr f 3 front 1 c
     pads_sum = ap (xors c) kept_is ∙ zeros_pads c
 
-    pub pads-long : length (take (length c) kept) ≡ length c
-    pads-long = ap length kept_is ∙ length-ctr f size 3 front 1 (replicate (length c) 0) ∙ length-replicate {A = ℕ} (length c) 0
-
     -- the plaintext over the front of the output
     pub short-put : (out : List ℕ) {after : List ℕ} → after ≡ over (xors c (take (length c) kept)) out → answer 0 (ctr f 3 front 1 c) out ≡ (0, after)
     short-put out e = ap (λ (l : List ℕ). (0, l)) (sym (e ∙ ap (λ (s : List ℕ). over s out) pads_sum))

@@ -1,13 +1,12 @@
 -- GCM as the code makes it, for any f whose every value has 16 bytes: the counter blocks' front, the block of lengths, the text and the tag.
 -- Assumes nothing.
 use mathlib.Core.Path.{◌≡◌, refl, sym, ap, ap₂, ◌∙◌}
-use mathlib.Core.Bool.{true, false}
+use mathlib.Core.Bool.{true}
 use mathlib.Core.List.{List, [], ◌∷◌, ◌++◌}
-use lib.Dec.{lit<, lit≤}
-use Prim.Native.Nat.{ℕ, ◌+◌, ◌-◌, ◌*◌, ◌/◌, ◌%◌, ◌^◌, ◌≤◌, ◌<◌}
-use native.Mathlib.Nat.{zero-add, zero-mul, div-one}
+use lib.Dec.{lit≤}
+use Prim.Native.Nat.{ℕ, ◌+◌, ◌-◌, ◌*◌, ◌≤◌}
 use native.Mathlib.Omega.{arith}
-use lib.ListN.{length, set, take, drop, replicate, length-append}
+use lib.ListN.{length, take, drop, length-append}
 use lib.Seq.{take_at}
 use Rattle.octets.specs.BigEndian.{be}
 use Rattle.octets.specs.Bytes.{Bytes}
@@ -15,9 +14,9 @@ use Rattle.octets.specs.Xor.{xors}
 use Rattle.octets.specs.Same.{same}
 use Rattle.octets.specs.Lent.{lowest, over, answer}
 use Rattle.octets.specs.Blocks.{cut}
-use Rattle.octets.proofs.Lent.{over_fits, over_front, over_then}
+use Rattle.octets.proofs.Lent.{over_front, over_then}
 use Rattle.octets.proofs.Bytes.{bytes_append, bytes_take}
-use Rattle.octets.proofs.BigEndian.{bytes-be, be_append}
+use Rattle.octets.proofs.BigEndian.{bytes-be}
 use Rattle.refusals.specs.Numbers.{number_of}
 use Rattle.refusals.specs.declared.Refusal.{Refusal}
 use Rattle.refusals.proofs.Laws.{not_zero}
@@ -31,22 +30,8 @@ use Rattle.modes.proofs.Gctr.{gctr_block, length-gctr, gctr-gctr, bytes-gctr, gc
 
 -- ---- the counter blocks' front, and the block of lengths
 
-pub base_stored : (iv : List ℕ) → length iv ≡ 12 → over iv (replicate 16 0) ≡ iv ++ be 4 0
-base_stored iv size = over_fits iv (replicate 16 0) (omega arith) ∙ ap (λ (n : ℕ). iv ++ drop n (replicate 16 0)) size
-
 front_base : (iv : List ℕ) → length iv ≡ 12 → front_of true (iv ++ be 4 0) ≡ iv
 front_base iv size = take_at iv (be 4 0) 12 size
-
--- a number that w bytes hold, in v bytes more
-be_high : (v w n : ℕ) → 0 < 256 ^ v → n < 256 ^ w → be (v + w) n ≡ be v 0 ++ be w n
-be_high v w n some h = ap (be (v + w)) (sym (rw (zero-mul (256 ^ w)) (zero-add n))) ∙ be_append v w 0 n some h
-
--- two numbers in 8 bytes each, of which the lower two bytes and the lower three are stored
-pub lengths_stored : (a c : ℕ) → a < 65536 → c < 16777216
-    → counter_block 3 (front_of false (set (set (replicate 16 0) 6 (a / 256 % 256)) 7 (a % 256))) c ≡ be 8 a ++ be 8 c
-lengths_stored a c ha hc =
-    ap (λ (n : ℕ). counter_block 3 (front_of false (set (set (replicate 16 0) 6 (a / 256 % 256)) 7 (n % 256))) c) (sym (div-one a))
-    ∙ sym (ap₂ (λ (x y : List ℕ). x ++ y) (be_high 6 2 a (lit< tt) ha) (be_high 5 3 c (lit< tt) hc))
 
 module _ (f : List ℕ → List ℕ) where
   -- ---- the tag

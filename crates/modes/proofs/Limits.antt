@@ -3,7 +3,7 @@
 use mathlib.Core.Path.{◌≡◌, refl, ap, ap₂, ◌∙◌}
 use mathlib.Core.Bool.{Bool, true, false, not}
 use mathlib.Core.List.{List, ◌++◌, append-nil}
-use Prim.Native.Nat.{ℕ, zero, suc, ◌+◌, ◌-◌, ◌*◌, ◌/◌, ◌%◌, ◌^◌, ◌≤◌, ◌<◌, min}
+use Prim.Native.Nat.{ℕ, zero, suc, ◌+◌, ◌-◌, ◌/◌, ◌%◌, ◌^◌, ◌≤◌, ◌<◌, min}
 use native.Mathlib.Omega.{arith}
 use borrow.Author.Tests.{leb-true, leb-false, lt-ltb, le-ltb, le-leb}
 use lib.Dec.{ltb, leb, lit<}
@@ -15,7 +15,7 @@ use Rattle.octets.proofs.BigEndian.{length-be}
 use Rattle.octets.specs.Blocks.{blocks}
 use Rattle.octets.specs.Lent.{over}
 use Rattle.modes.specs.Counter.{counter_block, ctr, counter_fits, counter_number, counter_answer}
-use Rattle.modes.specs.Calls.{data_max, text_max, too_long}
+use Rattle.modes.specs.Calls.{text_max}
 
 -- ---- the counter block: the last w bytes of a number in eight, over the last w of a block
 
@@ -54,35 +54,14 @@ module _ (b n : ℕ) {h : ℕ} (is : h ≡ min n b) where
   pub least_inside : h ≤ n
   least_inside = omega arith
 
-  pub least_short : h ≤ b
-  least_short = omega arith
-
   pub least-whole : h < n → h ≡ b
   least-whole less = omega arith
 
-  pub least-left : n < b + b → n - h ≤ b
-  least-left less = omega arith
-
--- a block first where the counter i is odd: then it is even
-module _ (i : ℕ) where
-  pub odd-one : (h : ℕ) → i % 2 ≤ h + 1
-  odd-one h = omega arith
-
-  pub odd_block : 16 * (i % 2) ≤ 16
-  odd_block = omega arith
-
-  pub odd_even : (i + i % 2) % 2 ≡ 0
-  odd_even = omega arith
+-- a block first where the counter i is odd
+pub odd-one : (i h : ℕ) → i % 2 ≤ h + 1
+odd-one i h = omega arith
 
 -- ---- tests
-
--- a maximum is passed by the associated data, or else by the text
-module _ (a b s : List ℕ) where
-  pub too_long_data : data_max < length a + length b → too_long a b s ≡ true
-  too_long_data h = rw (lt-ltb data_max (length a + length b) h)
-
-  pub too_long_text : length a + length b ≤ data_max → too_long a b s ≡ ltb text_max (length s)
-  too_long_text h = rw (le-ltb data_max (length a + length b) h)
 
 ltb-leb : (a b : ℕ) → ltb a b ≡ not (leb b a)
 ltb-leb a b = go (leb b a) refl

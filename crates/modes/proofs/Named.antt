@@ -1,23 +1,19 @@
--- The mode that a byte names: what holds of each mode holds of it; and each mode's calls, under the schedule of the key, are its.
+-- The mode that a byte names: what holds of each mode holds of it; and what passing the tests of the arguments says.
 -- Assumes nothing.
-use mathlib.Core.Path.{◌≡◌, refl, sym, ap, ◌∙◌}
+use mathlib.Core.Path.{◌≡◌, refl, sym, ◌∙◌}
 use mathlib.Core.Bool.{Bool, true, false, ◌||◌}
-use mathlib.Core.List.{List, ◌++◌}
+use mathlib.Core.List.{List}
 use Prim.Native.Nat.{ℕ, ◌+◌}
-use borrow.Author.Tests.{eq-eqb, ne_eqb}
 use lib.Dec.{eqb}
 use lib.ListN.{length}
-use Rattle.octets.specs.Lent.{when, is_not, lowest, answer}
+use Rattle.octets.specs.Lent.{when, is_not, lowest}
 use Rattle.octets.proofs.Tests.{or_left, or_right}
 use Rattle.octets.proofs.Lent.{is_not-false, first_right, second_right}
-use Rattle.aes.specs.State.{State}
-use Rattle.aes.specs.Cipher.{cipher}
-use Rattle.aes.specs.KeyExpansion.{schedule}
-use Rattle.modes.specs.Mode.{Mode, sealed}
+use Rattle.modes.specs.Mode.{Mode}
 use Rattle.modes.specs.Ccm as c
 use Rattle.modes.specs.Gcm as g
 use Rattle.modes.specs.Modes.{mode_of}
-use Rattle.modes.specs.Calls.{Sealable, Openable, wrong_sizes, wrong_opening, argument_tests, authentic_tests, tag_decides, encrypt_tests}
+use Rattle.modes.specs.Calls.{Sealable, Openable, wrong_sizes, wrong_opening, argument_tests, encrypt_tests}
 use Rattle.modes.proofs.Numbers.{arguments_passed}
 
 pub each_mode : (Holds : Mode → Type 0) → Holds g.gcm → Holds c.ccm → (u : ℕ) → Holds (mode_of u)
@@ -65,32 +61,3 @@ module _ (u : ℕ) where
         let sizes = or_left (wrong_sizes (mode_of u) key iv s) (is_not (mode_of u).tag_size t) passed.sizes in
         let tag = or_right (wrong_sizes (mode_of u) key iv s) (is_not (mode_of u).tag_size t) passed.sizes in
         ((named_key key iv s sizes, named_iv key iv s sizes, passed.data_fits, passed.text_fits, is_not-false (mode_of u).tag_size t tag ∙ sym named-tag_size), passed.room_fits)
-
-  -- ---- calls, with the round keys of a copy k of the key
-
-  module _ {ks : List State} {k : List ℕ} (key iv a s t : List ℕ) (made : ks ≡ schedule k) (copied : k ≡ key) where
-    pub gcm_verified : {n : ℕ} → u ≡ 2 → n ≡ tag_decides (g.gcm_tag_right (cipher ks) iv a s t) → n ≡ tag_decides ((mode_of u).authentic key iv a s t)
-    gcm_verified e h = rw (eq-eqb u 2 e) (rw (made ∙ ap schedule copied) at h)
-
-    pub ccm_verified : {n : ℕ} → (u ≡ 2 → ⊥) → n ≡ tag_decides (c.ccm_tag_right (cipher ks) iv a s t) → n ≡ tag_decides ((mode_of u).authentic key iv a s t)
-    ccm_verified e h = rw (ne_eqb u 2 e) (rw (made ∙ ap schedule copied) at h)
-
-  module _ {ks : List State} {k : List ℕ} (key iv a s out : List ℕ) (made : ks ≡ schedule k) (copied : k ≡ key) where
-    keys : ks ≡ schedule key
-    keys = made ∙ ap schedule copied
-
-    pub gcm-sealed : {x : ℕ × List ℕ} → u ≡ 2 → answer 0 (g.gcm_text (cipher ks) iv s ++ g.gcm_tag (cipher ks) iv a (g.gcm_text (cipher ks) iv s)) out ≡ x
-        → answer 0 (sealed (mode_of u) key iv a s) out ≡ x
-    gcm-sealed e h = rw (eq-eqb u 2 e) (rw keys at h)
-
-    pub ccm-sealed : {x : ℕ × List ℕ} → (u ≡ 2 → ⊥) → answer 0 (c.ccm_text (cipher ks) iv s ++ c.ccm_tag (cipher ks) iv a s) out ≡ x → answer 0 (sealed (mode_of u) key iv a s) out ≡ x
-    ccm-sealed e h = rw (ne_eqb u 2 e) (rw keys at h)
-
-    module _ (t : List ℕ) where
-      pub gcm-opened : {x : ℕ × List ℕ} → u ≡ 2 → answer (lowest (authentic_tests (g.gcm_tag_right (cipher ks) iv a s t))) (g.gcm_text (cipher ks) iv s) out ≡ x
-          → answer (lowest (authentic_tests ((mode_of u).authentic key iv a s t))) ((mode_of u).plaintext key iv s) out ≡ x
-      gcm-opened e h = rw (eq-eqb u 2 e) (rw keys at h)
-
-      pub ccm-opened : {x : ℕ × List ℕ} → (u ≡ 2 → ⊥) → answer (lowest (authentic_tests (c.ccm_tag_right (cipher ks) iv a s t))) (c.ccm_text (cipher ks) iv s) out ≡ x
-          → answer (lowest (authentic_tests ((mode_of u).authentic key iv a s t))) ((mode_of u).plaintext key iv s) out ≡ x
-      ccm-opened e h = rw (ne_eqb u 2 e) (rw keys at h)

@@ -129,10 +129,6 @@ module _ {f : List ℕ → List ℕ} {w : ℕ} {front : List ℕ} {i : ℕ} {s b
   pub partly_start : Partly f w front i s before 0 i before
   partly_start = record { inside = omega arith; room = refl; counted = omega arith; written = refl; kept = refl }
 
-  -- a place of the text is one of the output
-  pub partly_room : {at k e : ℕ} {out : List ℕ} → Partly f w front i s before at k out → length s ≤ length before → e ≤ length s → e ≤ length out
-  partly_room p fits h = omega (arith, p.room)
-
   -- all that is left
   pub partly-rest : {at k : ℕ} {out : List ℕ} → Partly f w front i s before at k out → length s ≤ length before
       → (length (take (length s - at) (drop at s)) ≡ length s - at) × (length (take (length s - at) (drop at out)) ≡ length (take (length s - at) (drop at s)))
@@ -226,9 +222,6 @@ module _ (f : List ℕ → List ℕ) (size : (x : List ℕ) → length (f x) ≡
       subst (λ (k : ℕ). Partly f w front i s out n (i + m) (ys ++ drop k out)) (sub-zero n)
       (partly_turn (partly_start {f = f} {w = w} {front = front} {i = i} {s = s} {before = out}) fits size m n (omega arith) (omega arith) inside (λ h. omega (arith, whole h))
       (first ∙ ap (λ (k : ℕ). ctr f w front i (take k s)) (sym (sub-zero n))))
-
-  pub rest_room : length (take (length s - n) (drop n (ys ++ drop n out))) ≡ length (take (length s - n) (drop n s))
-  rest_room = (partly-rest written fits).1
 
   pub parts-over : {zs : List ℕ} → zs ≡ ctr f w front (i + m) (take (length s - n) (drop n s))
       → take n (ys ++ drop n out) ++ (zs ++ drop (length s - n) (drop n (ys ++ drop n out))) ≡ over (ctr f w front i s) out

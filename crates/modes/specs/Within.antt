@@ -1,23 +1,11 @@
--- What the passes of a mode are lent once the tests of the arguments are passed: lengths in range.
+-- CCM's opening of a text that is short.
 -- Assumes nothing.
-use Rattle.std.specs.Prelude.{◌≡◌, ℕ, ◌+◌, ◌≤◌, List, length}
+use Rattle.std.specs.Prelude.{ℕ, List}
 use Rattle.octets.specs.Xor.{xors}
 use Rattle.octets.specs.Same.{same}
 use Rattle.octets.specs.Blocks.{cut, chain}
-use Rattle.modes.specs.Calls.{data_max, text_max, opened_answer}
+use Rattle.modes.specs.Calls.{opened_answer}
 use Rattle.modes.specs.Counter.{counter_block, ctr}
-
--- an IV of 12 bytes, and room for the text and a tag of 16
-abbrev pub SealsWith : List ℕ → List ℕ → List ℕ → List ℕ → ℕ → Type 0
-SealsWith iv a b p room = (length iv ≡ 12) × (length a + length b ≤ data_max) × (length p ≤ text_max) × (length p + 16 ≤ room)
-
--- the same IV, and a tag of 16 bytes
-abbrev pub VerifiesWith : List ℕ → List ℕ → List ℕ → List ℕ → List ℕ → Type 0
-VerifiesWith iv a b c tag = (length iv ≡ 12) × (length a + length b ≤ data_max) × (length c ≤ text_max) × (length tag ≡ 16)
-
--- the same, and room for the text
-abbrev pub OpensWith : List ℕ → List ℕ → List ℕ → List ℕ → List ℕ → ℕ → Type 0
-OpensWith iv a b c tag room = VerifiesWith iv a b c tag × (length c ≤ room)
 
 -- a text whose pads CCM keeps while it opens it
 abbrev pub short_max : ℕ
