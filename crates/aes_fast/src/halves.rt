@@ -1,11 +1,10 @@
 // A block, and a state, as two words of 64 bits: columns 0 and 1, and columns 2 and 3, the first byte lowest.
-ghost use Rattle.std.specs.Prelude.{◌≡◌, [], ◌∷◌, ◌++◌, ◌+◌, ◌/◌, ◌≤◌, leb, length, take, drop};
+ghost use Rattle.std.specs.Prelude.{◌≡◌, [], ◌∷◌, ◌/◌};
 ghost use Rattle.octets.specs.Lent.{over};
-ghost use Rattle.octets.specs.Tests.{part_of};
 ghost use Rattle.octets.specs.Xor.{xors};
 ghost use Rattle.aes.specs.State.{column, state_of, column_bytes};
 ghost use Rattle.aes_fast.specs.ByTables.{column_from};
-ghost use Rattle.aes_fast.specs.Halves.{columns_of, halves_block, word_bytes, block_at};
+ghost use Rattle.aes_fast.specs.Halves.{columns_of, halves_block, block_at};
 
 use crate::words::column_word;
 use aes_state::State;

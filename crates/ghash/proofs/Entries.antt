@@ -7,18 +7,15 @@ use Prim.Native.Nat.{ℕ, suc, ◌+◌, ◌*◌, ◌-◌, ◌/◌, ◌%◌, ◌^
 use native.Mathlib.Nat.{add_assoc, add-zero, zero-add, mul-suc, suc-mul}
 use native.Mathlib.Numerals.{add-one}
 use native.Mathlib.Omega.{arith}
-use borrow.Author.Count.{below_more}
 use borrow.Author.Tests.{lt-ltb, le-ltb}
 use lib.Arith.{digits_div, digits_mod}
 use lib.Bits.{bit_xor, xor_comm, xor_zero_l, xor_zero_r}
-use lib.ListN.{length, get_or, set, length-set}
-use lib.Seq.{get_or-set_same, get_or-set_other}
 use Rattle.octets.specs.BigEndian.{be}
 use Rattle.octets.specs.Lent.{when}
 use Rattle.octets.proofs.Xor.{xor_assoc}
 use Rattle.ghash.specs.declared.words.Wide.{Wide}
 use Rattle.ghash.specs.Field.{times_xs, times_h}
-use Rattle.ghash.specs.Table.{adds, entry_at, Window, Sums, entry_in, Filled}
+use Rattle.ghash.specs.Table.{adds, entry_at, Window, Sums, Filled}
 use Rattle.ghash.specs.Words.{val, block_of}
 use Rattle.ghash.proofs.Multiply.{times_xs_add, adds_none, adds_window, adds_mod, adds_highest, multiply-words}
 use Rattle.ghash.proofs.Field.{adds-parts, times_xs-zero}
@@ -94,23 +91,6 @@ filled-same e g = rw (sym e) g
 
 pub twice : (b t u : ℕ) → t + t ≡ u → b + t + t ≡ b + u
 twice b t u e = omega arith
-
-pub filled_more : (f : ℕ → ℕ) (t : List ℕ) (i a b : ℕ) → 2 * i + 2 ≤ length t → a * 2 ^ 64 + b ≡ f i
-    → Filled f t i → Filled f (set (set t (2 * i) a) (2 * i + 1) b) (i + 1)
-filled_more f t i a b fits e g = record { at = below_more _ i old new }
-  where
-    new : entry_in (set (set t (2 * i) a) (2 * i + 1) b) i ≡ f i
-    new =
-        ap₂ (λ (m n : ℕ). m * 2 ^ 64 + n)
-        (get_or-set_other (set t (2 * i) a) (2 * i + 1) (2 * i) b 0 (λ s. omega arith) ∙ get_or-set_same t (2 * i) a 0 (omega arith))
-        (get_or-set_same (set t (2 * i) a) (2 * i + 1) b 0 (omega (arith, length-set t (2 * i) a)))
-        ∙ e
-
-    kept : (k : ℕ) → k < 2 * i → get_or (set (set t (2 * i) a) (2 * i + 1) b) k 0 ≡ get_or t k 0
-    kept k lt = get_or-set_other (set t (2 * i) a) (2 * i + 1) k b 0 (λ s. omega arith) ∙ get_or-set_other t (2 * i) k a 0 (λ s. omega arith)
-
-    old : (k : ℕ) → k < i → entry_in (set (set t (2 * i) a) (2 * i + 1) b) k ≡ f k
-    old k lt = ap₂ (λ (m n : ℕ). m * 2 ^ 64 + n) (kept (2 * k) (omega arith)) (kept (2 * k + 1) (omega arith)) ∙ g.at k lt
 
 next : (b k : ℕ) → 4 + b * k + b ≡ 4 + b * (k + 1)
 next b k = add_assoc 4 (b * k) b ∙ ap (λ (n : ℕ). 4 + n) (sym (ap (λ (n : ℕ). b * n) (add-one k) ∙ mul-suc b k))

@@ -1,5 +1,5 @@
 // The field product by tables of H: what some bits of a block add at their place. Fine tables are for one word each, and a small one is for 32 bits.
-ghost use Rattle.std.specs.Prelude.{◌≡◌, refl, Bool, true, false, ℕ, ◌+◌, ◌*◌, ◌/◌, ◌%◌, ◌^◌, ◌≤◌, ◌<◌, length};
+ghost use Rattle.std.specs.Prelude.{◌≡◌, refl, Bool, true, false, ℕ, ◌+◌, ◌*◌, ◌^◌, ◌≤◌, length};
 ghost use Rattle.std.specs.Int.Bits.{bit_xor};
 ghost use Rattle.octets.specs.BigEndian.{number};
 ghost use Rattle.ghash.specs.Field.{times_xs, times_h};
