@@ -3,43 +3,28 @@ ghost use Rattle.std.specs.Prelude.{◌≡◌, ◌*◌, ◌/◌, ◌%◌, ◌≤
 ghost use Rattle.std.specs.List.{list_all};
 ghost use Rattle.octets.specs.Lent.{over};
 ghost use Rattle.refusals.specs.Numbers.{outcome_number};
-ghost use Rattle.wording.specs.Hex.{is_small_digit, is_capital_digit, is_hex_digit, digit_value, hex_byte, hex_bytes, is_hex, digit_of, hex_read};
+ghost use Rattle.wording.specs.Hex.{is_hex_digit, digit_value, hex_byte, hex_bytes, is_hex, digit_of, hex_read};
 
-use crate::decimal::{is_decimal, lies_between};
 use refusals::Refusal;
 
-fn is_small(c: u8) -> bool
-    ensures { result ≡ is_small_digit c }
-{
-    lies_between(c, b'a', b'f')
-}
-
-fn is_capital(c: u8) -> bool
-    ensures { result ≡ is_capital_digit c }
-{
-    lies_between(c, b'A', b'F')
-}
-
+#[tactic(auto, unfolding(crate::specs::Hex::is_hex_digit))]
 fn is_hex_digit(c: u8) -> bool
     ensures { result ≡ is_hex_digit c }
 {
-    is_decimal(c) | is_small(c) | is_capital(c)
+    c.is_ascii_hexdigit()
 }
 
 // What a digit counts; 0 for any other character.
+#[tactic(auto, unfolding(crate::specs::Hex::digit_value))]
 fn digit_value(c: u8) -> u8
     ensures { (result ≡ digit_value c) × (result < 16) }
 {
-    if is_decimal(c) {
-        return c - b'0';
+    match c {
+        b'0'..=b'9' => c - b'0',
+        b'a'..=b'f' => c - b'a' + 10,
+        b'A'..=b'F' => c - b'A' + 10,
+        _ => 0,
     }
-    if is_small(c) {
-        return c - b'a' + 10;
-    }
-    if is_capital(c) {
-        return c - b'A' + 10;
-    }
-    0
 }
 
 fn byte_of(a: u8, b: u8) -> u8
@@ -65,10 +50,8 @@ fn fill_bytes(word: &[u8], out: &mut [u8])
     requires { (length word.now % 2 ≡ 0) × (length word.now / 2 ≤ length out.old) }
     ensures { out.new ≡ over (hex_bytes word.now) out.old }
 {
-    let mut i = 0;
-    while i < word.len() / 2 {
+    for i in 0..word.len() / 2 {
         out[i] = byte_of(word[2 * i], word[2 * i + 1]);
-        i += 1;
     }
 }
 
@@ -88,15 +71,14 @@ pub fn read(word: &[u8], out: &mut [u8]) -> Result<(), Refusal>
 }
 
 // The digit of a number below 16, a letter from ten on.
+#[tactic(auto, unfolding(crate::specs::Hex::digit_of))]
 pub(crate) fn digit_of(d: u8, capital: bool) -> u8
     requires { d < 16 }
     ensures { result ≡ digit_of capital d }
 {
-    if d < 10 {
-        return b'0' + d;
+    match d {
+        0..=9 => b'0' + d,
+        _ if capital => b'A' + (d - 10),
+        _ => b'a' + (d - 10),
     }
-    if capital {
-        return b'A' + (d - 10);
-    }
-    b'a' + (d - 10)
 }

@@ -8,6 +8,7 @@ use crate::text::Text;
 const LINE_MAX: usize = 64;
 
 // The line of a number of document 01, `6: no row of that type and name`; one that begins with no number for any other.
+#[tactic(auto, unfolding(crate::specs::Meaning::meaning_of))]
 pub fn meaning(number: u8) -> Text<LINE_MAX>
     ensures { line_of (meaning_of number) ≡ (result.size, result.bytes) }
 {

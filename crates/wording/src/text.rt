@@ -2,7 +2,7 @@
 ghost use Rattle.std.specs.Prelude.{◌≡◌, ◌≤◌, take};
 ghost use Rattle.wording.specs.ByValue.{text_of};
 
-use octets::strings::put;
+use octets::strings::first;
 
 #[derive(Clone, Copy)]
 pub struct Text<const N: usize> {
@@ -16,11 +16,9 @@ impl<const N: usize> Text<N> {
     pub fn of(words: &[u8]) -> Self
         ensures { text_of N words.now ≡ (result.size, result.bytes) }
     {
-        let mut bytes = [0u8; N];
-        put(&mut bytes, words);
         Text {
             size: words.len().min(N),
-            bytes,
+            bytes: first(words),
         }
     }
 
