@@ -47,10 +47,6 @@ module _ (c : ℕ) where
   unfolding digit_value
   value_capital h₁ h₂ h₃ = (bounds (code "A") (code "F") c h₃, rw (h₁, h₂, h₃))
 
-  pub value_none : is_decimal_digit c ≡ false → is_small_digit c ≡ false → is_capital_digit c ≡ false → 0 ≡ digit_value c
-  unfolding digit_value
-  value_none h₁ h₂ h₃ = rw (h₁, h₂, h₃)
-
 pub digit_low : (capital : Bool) (d : ℕ) → d < 10 → digit_of capital d ≡ decimal_digit d
 unfolding digit_of
 digit_low capital d h = rw (lt-ltb d 10 h)

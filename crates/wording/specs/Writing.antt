@@ -14,6 +14,17 @@ unfoldable pub put_at : ℕ → List ℕ → List ℕ → ℕ × List ℕ
 put_at at s room =
     when (leb (at + length s) (length room)) (at + length s, take at room ++ (s ++ drop (at + length s) room)) (nowhere, room)
 
+-- texts put one after the other, each at the place that the one before it answered
+abbrev pub put_all : ℕ → List (List ℕ) → List ℕ → ℕ × List ℕ
+put_all at [] room = (at, room)
+put_all at (s ∷ ss) room = put_all (put_at at s room).0 ss (put_at at s room).1
+
+-- s was written at the place `at`, where it fits; the rest is as before, and `end` is the place after it
+pub record Wrote (at : ℕ) (s before after : List ℕ) (end : ℕ) : Type 0 where
+  pub fits : at + length s ≤ length before
+  pub place : end ≡ at + length s
+  pub text : after ≡ take at before ++ (s ++ drop (at + length s) before)
+
 -- ---- a writer: its place, and its room
 
 abbrev pub Place : Type 0
@@ -35,20 +46,3 @@ goes_on (Err e, w) next = (Err e, w)
 abbrev pub writer_puts : List (List ℕ) → Place → Answer
 writer_puts [] w = (Ok tt, w)
 writer_puts (s ∷ ss) w = goes_on (writer_put s w) (writer_puts ss)
-
--- ---- rooms before and after
-
--- texts put one after the other, each at the place that the one before it answered
-abbrev pub put_all : ℕ → List (List ℕ) → List ℕ → ℕ × List ℕ
-put_all at [] room = (at, room)
-put_all at (s ∷ ss) room = put_all (put_at at s room).0 ss (put_at at s room).1
-
--- s was written at the place `at`, where it fits; the rest is as before, and `end` is the place after it
-pub record Wrote (at : ℕ) (s before after : List ℕ) (end : ℕ) : Type 0 where
-  pub fits : at + length s ≤ length before
-  pub place : end ≡ at + length s
-  pub text : after ≡ take at before ++ (s ++ drop (at + length s) before)
-
--- where s fits at the place, it was written there
-pub record WroteIfFits (at : ℕ) (s before final : List ℕ) (end : ℕ) : Type 0 where
-  pub wrote : at + length s ≤ length before → Wrote at s before final end

@@ -4,6 +4,5 @@
 pub mod decimal;
 pub mod hex;
 pub mod meaning;
-pub mod old_writing;
 pub mod text;
 pub mod writing;

@@ -8,9 +8,6 @@ ghost use Rattle.wording.specs.Writer.{Writes};
 ghost use Rattle.wording.specs.Writing.{writer_put};
 
 use crate::hex::digit_of;
-pub use crate::old_writing::{
-    NOWHERE, put_byte, put_decimal, put_hex, put_line, put_shown, put_string,
-};
 use refusals::Refusal;
 
 // The most decimal digits that a number of 64 bits has.
