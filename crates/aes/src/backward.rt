@@ -12,7 +12,7 @@ fn inv_sub_bytes(s: State) -> State
     load(inv_sub(store(s)))
 }
 
-// Kept a function of its own: where the compiler puts it into its two callers, unwrapping a key takes 345,000 instructions, and so 307,000.
+// Kept a function of its own: where the compiler puts it into its two callers, unwrapping a key takes 345,000 instructions, and so 304,000.
 #[inline(never)]
 #[tactic(auto, unfolding(crate::specs::InvCipher::inv_last_round))]
 fn inv_last_round(s: State, k: State) -> State

@@ -5,7 +5,8 @@ mod backward;
 mod forward;
 mod schedule;
 
-ghost use Rattle.std.specs.Prelude.{◌≡◌, true, false, MatchResult};
+ghost use Rattle.std.specs.Prelude.{◌≡◌, ℕ, List, true, false, MatchResult};
+ghost use Rattle.octets.specs.Lent.{over};
 ghost use Rattle.refusals.specs.Numbers.{outcome_number};
 ghost use Rattle.aes.specs.Cipher.{cipher};
 ghost use Rattle.aes.specs.InvCipher.{inv_cipher};
@@ -32,6 +33,7 @@ pub const MIDDLE_ROUNDS: usize = 13;
 
 pub const LAST_ROUND: usize = 14;
 
+// KeyExpansion (5.2). Key and schedule are arrays (document 01), and a From may not stand between two types of std.
 pub fn expand_key(key: Key) -> RoundKeys
     ensures { result ≡ schedule key }
 {
@@ -63,31 +65,33 @@ fn wrong_lengths(key: &[u8], block: &[u8]) -> bool
     (key.len() != KEY_SIZE) | (block.len() != BLOCK_SIZE)
 }
 
-// The lent key and the lent block by value, where both have their lengths.
-fn read(key: &[u8], block: &[u8]) -> Result<(Key, Block), Refusal>
-    ensures { MatchResult result (λ r. (wrong_lengths key.now block.now ≡ false) × (r.0 ≡ key.now) × (r.1 ≡ block.now)) (λ e. (wrong_lengths key.now block.now ≡ true) × (e ≡ Refusal.Layout)) }
+// The block is changed in place by a way of the cipher, or not at all.
+fn change<F: FnOnce(RoundKeys, Block) -> Block>(
+    key: &[u8],
+    block: &mut [u8],
+    way: F,
+) -> Result<(), Refusal>
+    requires { F.IsAlwaysCallable way }
+    ensures { MatchResult result (λ _. (r : List ℕ) × (wrong_lengths key.now block.old ≡ false) × F.post way (schedule key.now) block.old r × (block.new ≡ over r block.old)) (λ e. (wrong_lengths key.now block.old ≡ true) × (e ≡ Refusal.Layout) × (block.new ≡ block.old)) }
 {
     if wrong_lengths(key, block) {
         return Err(Refusal::Layout);
     }
-    Ok((first(key), first(block)))
+    let done = way(expand_key(first(key)), first(block));
+    put(block, &done);
+    Ok(())
 }
 
-// The block is changed in place, or not at all.
 #[tactic(auto, unfolding(crate::specs::Calls::block_answer, crate::specs::Calls::block_number))]
 pub fn encrypt_block(key: &[u8], block: &mut [u8]) -> Result<(), Refusal>
     ensures { encrypt_block key.now block.old ≡ (outcome_number result, block.new) }
 {
-    let (k, plain) = read(key, block)?;
-    put(block, &encrypt(expand_key(k), plain));
-    Ok(())
+    change(key, block, encrypt)
 }
 
 #[tactic(auto, unfolding(crate::specs::Calls::block_answer, crate::specs::Calls::block_number))]
 pub fn decrypt_block(key: &[u8], block: &mut [u8]) -> Result<(), Refusal>
     ensures { decrypt_block key.now block.old ≡ (outcome_number result, block.new) }
 {
-    let (k, ciphered) = read(key, block)?;
-    put(block, &decrypt(expand_key(k), ciphered));
-    Ok(())
+    change(key, block, decrypt)
 }

@@ -1,10 +1,9 @@
 // The state of FIPS 197, four columns of four bytes by value, and the steps on it that need no S-box.
-// What is done to each column or byte is written out four times: with an array's `map` in inv_mix_columns unwrapping a key took 36.7 us, and so 31.5.
 #![tactic(auto)]
 
-ghost use Rattle.std.specs.Prelude.{◌≡◌, [], ◌∷◌, ◌+◌, ◌≤◌, get_or};
+ghost use Rattle.std.specs.Prelude.{◌≡◌, ℕ, List, [], ◌∷◌, ◌+◌, ◌≤◌, get_or};
 ghost use Rattle.aes_field.specs.Field.{times};
-ghost use Rattle.aes_state.specs.State.{state_from, bytes_of};
+ghost use Rattle.aes_state.specs.State.{column, state_from, bytes_of};
 ghost use Rattle.aes_state.specs.Steps.{shift_rows, mix_column, mix_columns, add_column, add_round_key};
 ghost use Rattle.aes_state.specs.InvSteps.{inv_shift_rows, inv_mix_column, inv_mix_columns};
 
@@ -15,7 +14,7 @@ pub type Column = [u8; 4];
 
 pub type State = [Column; 4];
 
-// 3.4: a block read into the state, and out of it again.
+// 3.4: a block read into the state, and out of it again. Both are arrays (document 01), and a From may not stand between two types of std.
 
 fn column_at(b: Block, at: usize) -> Column
     requires { at ≤ 12 }
@@ -45,6 +44,14 @@ pub fn store(s: State) -> Block
     ]
 }
 
+// What f makes of each column. With an array's `map` for InvMixColumns unwrapping a key takes 36.7 us, and so 30.4.
+fn each<F: Fn(Column) -> Column>(s: State, f: F) -> State
+    requires { F.IsAlwaysCallable f }
+    ensures { (p q r t : List ℕ) × (result ≡ p ∷ q ∷ r ∷ t ∷ []) × F.post f (column s 0) p × F.post f (column s 1) q × F.post f (column s 2) r × F.post f (column s 3) t }
+{
+    [f(s[0]), f(s[1]), f(s[2]), f(s[3])]
+}
+
 // 5.1.2, 5.3.1: row 0 of a, row 1 of b, row 2 of c and row 3 of d.
 fn rows_of(a: Column, b: Column, c: Column, d: Column) -> Column
     ensures { result ≡ get_or a 0 0 ∷ get_or b 1 0 ∷ get_or c 2 0 ∷ get_or d 3 0 ∷ [] }
@@ -52,6 +59,7 @@ fn rows_of(a: Column, b: Column, c: Column, d: Column) -> Column
     [a[0], b[1], c[2], d[3]]
 }
 
+// The two ways differ in the columns that the rows come from, which are written out as the standard's figures have them.
 pub fn shift_rows(s: State) -> State
     ensures { result ≡ shift_rows s }
 {
@@ -98,12 +106,7 @@ fn mix_column(a: Column) -> Column
 pub fn mix_columns(s: State) -> State
     ensures { result ≡ mix_columns s }
 {
-    [
-        mix_column(s[0]),
-        mix_column(s[1]),
-        mix_column(s[2]),
-        mix_column(s[3]),
-    ]
+    each(s, mix_column)
 }
 
 // 5.3.3
@@ -150,12 +153,7 @@ fn inv_mix_column(a: Column) -> Column
 pub fn inv_mix_columns(s: State) -> State
     ensures { result ≡ inv_mix_columns s }
 {
-    [
-        inv_mix_column(s[0]),
-        inv_mix_column(s[1]),
-        inv_mix_column(s[2]),
-        inv_mix_column(s[3]),
-    ]
+    each(s, inv_mix_column)
 }
 
 // 5.1.4, and its own inverse (5.3.4).
