@@ -21,9 +21,9 @@ use Rattle.octets.proofs.Tests.{every-not}
 
 -- ---- the check
 
-pub table-refused : (t : List ℕ) (i : ℕ) → get_or (table_tests t) i true ≡ false → table_answer t ≡ (1, [])
+pub table_refused : (t : List ℕ) (i : ℕ) → get_or (table_tests t) i true ≡ false → table_answer t ≡ (1, [])
 unfolding table_ok table_number table_answer
-table-refused t i e = rw (every-not (table_tests t) i e)
+table_refused t i e = rw (every-not (table_tests t) i e)
 
 pub table_accepted : (t : List ℕ) → head_ok t ≡ true → all row_ok (row_parts t) ≡ true → distinct (rows_of t) ≡ true → table_answer t ≡ (0, row_count t ∷ [])
 unfolding table_ok table_number table_answer

@@ -28,7 +28,7 @@ use Rattle.keytable.specs.Laws.{CheckTestsRise, UseTestsRise, TableCheckUnique, 
 use Rattle.octets.proofs.Tests.{length_part, part_short}
 use Rattle.keytable.proofs.Accepted.{head_total, accepted_head, accepted-distinct, length-rows_of, rows_of_more, rows_of_at, row_kept, part-kept}
 use Rattle.keytable.proofs.Lookup.{matches_both, both_match, unmatched, distinct-one, distinct_apart, apart_distinct, distinct-holders, as_list}
-use Rattle.keytable.proofs.Lookup.{as_list_injective, lookup-one, lookup-some, lookup_skips, placed_head, place_of-number, place_of-row, place_of-nothing, place_of-broken, broken_head, row_at_within}
+use Rattle.keytable.proofs.Lookup.{as_list_injective, lookup-one, lookup-some, lookup_skips, placed_head, place_of-number, place_of-row, place_of-nothing, place_of_broken, broken_head, row_at_within}
 use Rattle.keytable.proofs.Places.{says_same}
 
 -- ---- matches
@@ -166,7 +166,7 @@ else-nothing t type name ok = (λ e. finds-row t type name (Err NoRow) ok (sym e
 
 pub finds-broken : FindsBroken
 finds-broken t type name =
-    (λ e. broken_head t type name (says_same (place_of t type name) (Err TableLayout) e), λ e. ap found_says (place_of-broken t type name e))
+    (λ e. broken_head t type name (says_same (place_of t type name) (Err TableLayout) e), λ e. ap found_says (place_of_broken t type name e))
 
 -- ---- other rows
 

@@ -266,9 +266,9 @@ row_at_within t p h = ap (λ (n : ℕ). row_in (part_of t p n)) (size_within t p
 -- ---- place_of
 
 module _ (t : List ℕ) (type : ℕ) (name : List ℕ) where
-  pub place_of-broken : head_ok t ≡ false → place_of t type name ≡ Err TableLayout
+  pub place_of_broken : head_ok t ≡ false → place_of t type name ≡ Err TableLayout
   unfolding place_of
-  place_of-broken e = rw e
+  place_of_broken e = rw e
 
   pub place_of_looked : head_ok t ≡ true → place_of t type name ≡ place_from table_head_size type name (rows_of t)
   unfolding place_of

@@ -30,11 +30,11 @@ mark_by a b c d =
     let mix = bit_xor (bit_xor (bit_xor a b) c) d in
     (mix / 0x100000000 % 0x100000000 * 0x297A2D39 + mix % 0x100000000 * 0x1E3779B1) / 0x4000000 % mark_count
 
-pub mark-words : (s : List ℕ) (a b c d : ℕ)
+pub mark_words : (s : List ℕ) (a b c d : ℕ)
     → a ≡ number_at 8 s 0 → b ≡ turned_right 4 (number_at 8 s 8) → c ≡ turned_right 20 (number_at 8 s 16) → d ≡ turned_right 36 (number_at 8 s 24)
     → mark_by a b c d ≡ name_mark s
 unfolding mark_from
-mark-words s a b c d is-a is_b is_c is-d = cc
+mark_words s a b c d is-a is_b is_c is-d = cc
 
 zeros_are : (s : List ℕ) → zeros s ≡ true → s ≡ replicate (length s) 0
 unfolding all

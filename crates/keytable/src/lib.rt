@@ -28,6 +28,7 @@ pub const DATA_TYPE: usize = 0x0000;
 pub const ROW_MAX: usize = 64;
 
 // Checks a table: its count of rows, or number 1.
+#[tactic(auto, using(crate::proofs::Calls::table_accepted))]
 pub fn check(t: &[u8]) -> Result<usize, Refusal>
     ensures { table_says result ≡ table_answer t.now }
 {
@@ -35,7 +36,7 @@ pub fn check(t: &[u8]) -> Result<usize, Refusal>
     if !rows.keep_to_the_layout() || !rows.differ() {
         return Err(Refusal::TableLayout);
     }
-    Ok(rows.count)
+    Ok(rows.count())
 }
 
 // Whether a key-encrypting key may have this type.
@@ -47,10 +48,11 @@ pub fn is_kek_type(kind: usize) -> bool
 
 // The place of the first row with this type and this whole name, or number 6 where there is none. It is for callers that have checked the table: of the
 // layout it looks at the header alone, and a header that breaks it is number 1.
+#[tactic(auto, using(crate::proofs::Lookup::place_of_broken, crate::proofs::Lookup::place_of_looked, refusals::proofs::Laws::said_on))]
 pub fn find(t: &[u8], kind: usize, name: &[u8]) -> Result<usize, Refusal>
     ensures { found_says result ≡ found_answer t.now kind name.now }
 {
-    Rows::of(t)?.find_from(0, kind, name)
+    Rows::of(t)?.find_from(0, kind, name).ok_or(Refusal::NoRow)
 }
 
 // The place of row number i, from 0, and the number of the row at a place.
@@ -67,6 +69,7 @@ pub fn number_at(at: usize) -> usize
 }
 
 // How long the row at a place is: a row's size, or none where it does not lie in the table.
+#[tactic(auto, using(crate::proofs::Lookup::size_within, crate::proofs::Lookup::size_past))]
 fn row_size_at(t: &[u8], at: usize) -> usize
     ensures { result ≡ row_size_at t.now at }
 {

@@ -22,6 +22,7 @@ impl MarkSet {
         (self.words[m / 64] >> (m % 64)) % 2 == 1
     }
 
+    #[tactic(auto, using(crate::proofs::Marks::has_own, crate::proofs::Marks::has_still))]
     pub(crate) fn insert(&mut self, m: usize)
         requires { m < mark_count }
         ensures own { has_mark self.new.words m ≡ true }

@@ -56,6 +56,7 @@ impl<'a> Row<'a> {
     }
 
     // Whether its bytes keep to the layout.
+    #[tactic(auto, unfolding(crate::specs::Row::row_ok))]
     pub(crate) fn keeps_to_the_layout(self) -> bool
         ensures { result ≡ row_ok self.entry.bytes.now }
     {
@@ -72,6 +73,7 @@ impl<'a> Row<'a> {
     }
 
     // Its mark (specs/Marks.antt), of its name and the zeros after it.
+    #[tactic(auto, using(crate::proofs::Marks::mark_words))]
     pub(crate) fn mark(self) -> usize
         ensures { (result ≡ row_mark self.entry.bytes.now) × (result < mark_count) }
     {

@@ -21,9 +21,6 @@ use Rattle.record.specs.Seal.{callers_max}
 pub iv_small : (u : ℕ) → (mode_of u).iv_size ≤ 64
 iv_small = each_mode (λ m. m.iv_size ≤ 64) (omega arith) (omega arith)
 
-pub tag_small : (u : ℕ) → (mode_of u).tag_size ≤ 64
-tag_small = each_mode (λ m. m.tag_size ≤ 64) (omega arith) (omega arith)
-
 pub key_size : (u : ℕ) → (mode_of u).key_size_lem ≡ row_key_size
 key_size = each_mode (λ m. m.key_size_lem ≡ row_key_size) refl refl
 

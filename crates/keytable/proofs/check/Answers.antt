@@ -8,8 +8,8 @@ use Rattle.refusals.specs.declared.Refusal.{Refusal}
 use Rattle.refusals.proofs.Laws.{said_on}
 use Rattle.octets.specs.Tests.{all}
 use Rattle.keytable.specs.Row.{row_ok}
-use Rattle.keytable.specs.Table.{row_count, row_parts, rows_of, distinct}
-use Rattle.keytable.proofs.Calls.{table-refused, table_accepted}
+use Rattle.keytable.specs.Table.{row_parts, rows_of, distinct}
+use Rattle.keytable.proofs.Calls.{table_refused}
 use Rattle.keytable.proofs.check.Goals.{In_ok-rows, then-not-keep_to_the_layout-via-then-not-keep_to_the_layout, then-not-keep_to_the_layout-via-else-not-keep_to_the_layout+then-not-differ}
 use Rattle.keytable.proofs.check.Goals as goal
 
@@ -17,7 +17,7 @@ pub returns-in_err-rows : goal.returns-in_err-rows
 returns-in_err-rows c =
     said_on (λ i. i ∷ []) _ _ c.from_residual.ensures.1
     ∙ ap (λ (e : Refusal). (number_of e, [])) c.in_err-rows.ensures.0
-    ∙ sym (table-refused _ 0 c.in_err-rows.ensures.1)
+    ∙ sym (table_refused _ 0 c.in_err-rows.ensures.1)
 
 pub returns-then-not-keep_to_the_layout : goal.returns-then-not-keep_to_the_layout
 returns-then-not-keep_to_the_layout c =
@@ -25,16 +25,7 @@ returns-then-not-keep_to_the_layout c =
     let same = c.in_ok-rows.ensures.0 in
     elim c.then-not-keep_to_the_layout.branch [
       | then-not-keep_to_the_layout-via-then-not-keep_to_the_layout w ↦
-          sym (table-refused t 1 (ap (λ (s : List ℕ). all row_ok (row_parts s)) (sym same) ∙ sym c.keep_to_the_layout.ensures ∙ w.if-not-keep_to_the_layout.true))
+          sym (table_refused t 1 (ap (λ (s : List ℕ). all row_ok (row_parts s)) (sym same) ∙ sym c.keep_to_the_layout.ensures ∙ w.if-not-keep_to_the_layout.true))
       | then-not-keep_to_the_layout-via-else-not-keep_to_the_layout+then-not-differ w ↦
-          sym (table-refused t 2 (ap (λ (s : List ℕ). distinct (rows_of s)) (sym same) ∙ sym w.differ.ensures ∙ w.if-not-differ.true))
+          sym (table_refused t 2 (ap (λ (s : List ℕ). distinct (rows_of s)) (sym same) ∙ sym w.differ.ensures ∙ w.if-not-differ.true))
     ]
-
-pub returns : goal.returns
-returns c =
-    let t = c.args.t.now in
-    let same = c.in_ok-rows.ensures.0 in
-    let count = c.in_ok-rows.rows.whole.1 ∙ ap row_count same in
-    let kept = ap (λ (s : List ℕ). all row_ok (row_parts s)) (sym same) ∙ sym c.keep_to_the_layout.ensures ∙ c.if-not-keep_to_the_layout.false in
-    let differ = ap (λ (s : List ℕ). distinct (rows_of s)) (sym same) ∙ sym c.differ.ensures ∙ c.if-not-differ.false in
-    ap (λ (n : ℕ). (0, n ∷ [])) count ∙ sym (table_accepted t c.in_ok-rows.ensures.1 kept differ)

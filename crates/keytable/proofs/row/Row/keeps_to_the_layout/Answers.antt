@@ -12,7 +12,3 @@ unfolding row_ok
 returns-then-k-gt-NAME_MAX c =
     let row = c.args.self.bytes.now in
     sym (every-not (row_tests row) 1 (lt-leb (name_length row) 32 (omega arith)))
-
-pub returns : goal.returns
-unfolding row_ok
-returns c = cc

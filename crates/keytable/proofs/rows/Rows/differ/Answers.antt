@@ -39,7 +39,7 @@ module _ (c : After-mark-m) where
 pub loop-i-init : goal.loop-i-init
 loop-i-init c =
     let t = c.args.self.table.now in
-    let all-rows : row_count t ≤ c.args.self.count = omega arith in
+    let all-rows : row_count t ≤ c.count-i.result = omega arith in
     record { differ = distinct_end t _ all-rows; marked = marked_end t _ _ all-rows }
 
 pub returns-then-not-last_of_its_pair : goal.returns-then-not-last_of_its_pair
@@ -51,7 +51,7 @@ returns-then-not-last_of_its_pair c =
 pub loop-i-preserved : goal.loop-i-preserved
 loop-i-preserved c =
     let w = (goal.at.loop-i-preserved c).After-mark-m in
-    let total : length (table w) ≡ row_place (row_count (table w)) = c.args.self.whole.0 ∙ ap row_place c.args.self.whole.1 in
+    let total : length (table w) ≡ row_place (row_count (table w)) = c.args.self.whole in
     let last : last_of_its_pair (table w) (number w) ≡ true =
     elim c.else-contains.branch [
       | else-contains-via-then-contains+else-not-last_of_its_pair looked ↦ sym looked.last_of_its_pair.ensures ∙ looked.if-not-last_of_its_pair.false

@@ -15,7 +15,7 @@ use Rattle.keytable.proofs.rows.Rows.keep_to_the_layout.Goals as goal
 pub returns : goal.returns
 returns c =
     let t = c.args.self.table.now in
-    let n = c.args.self.count in
-    rows_all row_ok t n _ c.args.self.whole.1
+    let n = c.count.result in
+    rows_all row_ok t n _ c.count.ensures
     (cases_from_all _ _ _ (λ (k : ℕ). row_ok (part_of t (row_place k) row_size) ≡ true) (λ (k : ℕ). row_ok (part_of t (row_place k) row_size) ≡ false) c.all.ensures.ran
     (YieldsList-from_range 0 n n refl (omega arith)) (λ x q k. search rules) (λ x q k. search rules))
