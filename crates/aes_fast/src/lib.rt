@@ -33,7 +33,7 @@ use three_words::ThreeWords;
 // For each row, a word for each byte.
 pub type Tables = [[u32; 256]; 4];
 
-// The four tables, 4,096 bytes: for a byte in each row, what it adds to a mixed column.
+// The four tables, 4,096 bytes: for a byte in each row, what it adds to a mixed column. Constants, as document 01 has tables of S-box values.
 pub fn round_tables() -> Tables
     ensures { result ≡ round_tables }
 {
@@ -64,7 +64,8 @@ impl Keyed<'_> {
     // In the loop of a text: where two call it, the compiler would leave a call for each pair of blocks.
     #[inline(always)]
     pub fn encrypt_two_from(self, s: Start, low: u8, next: u8) -> Both
-        ensures { (halves_block result.one ≡ cipher_from self.entry.tables.now self.entry.keys.now s low) × (halves_block result.other ≡ cipher_from self.entry.tables.now self.entry.keys.now s next) }
+        ensures { (halves_block result.one ≡ cipher_from self.entry.tables.now self.entry.keys.now s low)
+            × (halves_block result.other ≡ cipher_from self.entry.tables.now self.entry.keys.now s next) }
     {
         let one = ThreeWords::from(begun(self.tables, s, low));
         let other = ThreeWords::from(begun(self.tables, s, next));
@@ -74,7 +75,8 @@ impl Keyed<'_> {
     // Any block, beside one that begins with others, in the loop of a text too.
     #[inline(always)]
     pub fn encrypt_beside(self, b: Halves, s: Start, low: u8) -> Both
-        ensures { (halves_block result.one ≡ cipher_by self.entry.tables.now self.entry.keys.now (halves_block b)) × (halves_block result.other ≡ cipher_from self.entry.tables.now self.entry.keys.now s low) }
+        ensures { (halves_block result.one ≡ cipher_by self.entry.tables.now self.entry.keys.now (halves_block b))
+            × (halves_block result.other ≡ cipher_from self.entry.tables.now self.entry.keys.now s low) }
     {
         let none = ThreeWords::from(add_halves(b, Halves::from(self.keys[0])));
         let one = round_of_three(self.tables, none, ThreeWords::from(self.keys[1]));
@@ -85,7 +87,8 @@ impl Keyed<'_> {
 
     // Any two blocks.
     pub fn encrypt_two(self, b: Block, c: Block) -> Both
-        ensures { Ciphered self.entry.tables.now self.entry.keys.now (λ f. f b) (halves_block result.one) × Ciphered self.entry.tables.now self.entry.keys.now (λ f. f c) (halves_block result.other) }
+        ensures { Ciphered self.entry.tables.now self.entry.keys.now (λ f. f b) (halves_block result.one)
+            × Ciphered self.entry.tables.now self.entry.keys.now (λ f. f c) (halves_block result.other) }
     {
         let key = Halves::from(self.keys[0]);
         let one = ThreeWords::from(add_halves(Halves::from(b), key));

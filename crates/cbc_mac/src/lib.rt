@@ -10,7 +10,7 @@ use aes_fast::Keyed;
 use aes_fast::halves::{Halves, add_halves};
 use octets::strings::Block;
 
-// A part that stays within the block, added from place k on.
+// A part that stays within the block, added from place k on. (ghash does so to a state of its own kind: the two lines in common would be no plainer apart.)
 fn add_part(k: usize, y: Block, part: &[u8]) -> Block
     requires { k + length part.now ≤ 16 }
     ensures { result ≡ add_from k y part.now }

@@ -106,7 +106,7 @@ fn sum_bits<C: Cut>(table: &[u64], w: u64) -> Wide
     let mut left = w;
     for k in (0..C::WINDOWS).rev() {
         sum = sum ^ read_entry(table, 16 + k * size + (left % size as u64) as usize);
-        left = left / size as u64;
+        left /= size as u64;
     }
     sum ^ read_entry(table, (left % 16) as usize)
 }
@@ -115,7 +115,7 @@ fn sum_bits<C: Cut>(table: &[u64], w: u64) -> Wide
 pub(crate) trait Tables {
     ghost are_of: { Self → ℕ → Type 0 };
 
-    // Room for them. It is filled where it stands: tables that are made and handed back would be copied, which took 42,000 instructions for the larger kind.
+    // Room for them, which is filled where it stands: tables that are made and handed back would be copied, 20,992 bytes of the larger kind.
     fn zeros() -> Self;
 
     fn fill(&mut self, h: Block)

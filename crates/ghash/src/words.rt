@@ -30,7 +30,8 @@ impl Wide {
         }
     }
 
-    // V after 32 bits of X: for each bit that falls out R is added, whose lowest bit does not fall out again.
+    // V after 32 bits of X: for each bit that falls out R is added, whose lowest bit does not fall out again. For one bit this is no plainer than R itself,
+    // which must-fail/wrong_polynomial names.
     pub(crate) fn times_x32(self) -> Wide
         ensures { val result ≡ times_xs 32 (val self) }
     {
@@ -45,7 +46,7 @@ impl Wide {
         }
     }
 
-    // A part that stays within the block, added from place k on.
+    // A part that stays within the block, added from place k on. (cbc_mac does so to a state of its own kind: the two lines in common would be no plainer apart.)
     pub(crate) fn add_part(self, k: usize, part: &[u8]) -> Wide
         requires { k + length part.now ≤ 16 }
         ensures { block_of result ≡ add_from k (block_of self) part.now }
