@@ -1,15 +1,12 @@
 // label LABEL
-use crate::rooms::long_room;
-use crate::saying::say_described;
+use crate::rooms::{LONG_ROOM, room};
+use crate::saying::{Said, granted, write_out};
 use crate::taking::take_file;
 use descriptor_text::describe_label;
 
-pub(crate) fn label(rt: &HostRuntime) {
-    let mut label = long_room();
-    let taken = take_file(rt, 2, &mut label);
-    if !taken.whole {
-        return;
-    }
-    let size = taken.size;
-    say_described(rt, describe_label(&label[..size]));
+pub(crate) fn label(rt: &HostRuntime) -> Result<(), Said> {
+    let mut label = room::<LONG_ROOM>();
+    let label = take_file(rt, 2, &mut label)?;
+    let text = granted(rt, describe_label(label))?;
+    write_out(rt, text.as_bytes())
 }

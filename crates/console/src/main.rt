@@ -7,7 +7,6 @@
 mod fields;
 mod labels;
 mod meanings;
-mod message;
 mod opening;
 mod pages;
 mod reports;
@@ -19,36 +18,25 @@ mod taking;
 mod wrapping;
 mod writing;
 
-use octets::strings::equal;
+use saying::Said;
 
 // Each command is called in one place, so that the compiler can lay the rooms of one over those of another: the stack would not hold all side by side.
-fn run(rt: &HostRuntime, command: &[u8]) {
-    let only_verify = equal(command, b"verify");
-    if equal(command, b"seal") {
-        sealing::seal(rt);
-    } else if only_verify | equal(command, b"open") {
-        opening::open(rt, only_verify);
-    } else if equal(command, b"report") {
-        reports::report(rt);
-    } else if equal(command, b"check-table") {
-        tables::check_table(rt);
-    } else if equal(command, b"label") {
-        labels::label(rt);
-    } else if equal(command, b"descriptors") {
-        pages::descriptors(rt);
-    } else if equal(command, b"write-page") {
-        writing::write_page(rt);
-    } else if equal(command, b"wrap-page") {
-        wrapping::wrap_page(rt);
-    } else if equal(command, b"meaning") {
-        meanings::meaning_of(rt);
-    } else {
-        saying::misuse(rt, b"no such command");
+fn run(rt: &HostRuntime, command: &[u8]) -> Result<(), Said> {
+    match command {
+        b"seal" => sealing::seal(rt),
+        b"open" | b"verify" => opening::open(rt, command == b"verify".as_slice()),
+        b"report" => reports::report(rt),
+        b"check-table" => tables::check_table(rt),
+        b"label" => labels::label(rt),
+        b"descriptors" => pages::descriptors(rt),
+        b"write-page" => writing::write_page(rt),
+        b"wrap-page" => wrapping::wrap_page(rt),
+        b"meaning" => meanings::meaning_of(rt),
+        _ => Err(saying::misuse(rt, b"no such command")),
     }
 }
 
 fn main(rt: HostRuntime) {
     let mut word = [0u8; taking::ARGUMENT_ROOM];
-    let size = taking::argument(&rt, 1, &mut word);
-    run(&rt, &word[..size]);
+    let _ = run(&rt, taking::argument(&rt, 1, &mut word));
 }

@@ -1,15 +1,12 @@
 // descriptors PAGE
-use crate::rooms::page_room;
-use crate::saying::say_described;
+use crate::rooms::{PAGE_ROOM, room};
+use crate::saying::{Said, granted, write_out};
 use crate::taking::take_file;
 use descriptor_text::describe_page;
 
-pub(crate) fn descriptors(rt: &HostRuntime) {
-    let mut page = page_room();
-    let taken = take_file(rt, 2, &mut page);
-    if !taken.whole {
-        return;
-    }
-    let size = taken.size;
-    say_described(rt, describe_page(&page[..size]));
+pub(crate) fn descriptors(rt: &HostRuntime) -> Result<(), Said> {
+    let mut page = room::<PAGE_ROOM>();
+    let page = take_file(rt, 2, &mut page)?;
+    let text = granted(rt, describe_page(page))?;
+    write_out(rt, text.as_bytes())
 }

@@ -1,23 +1,16 @@
 // report TABLE DUMP
-use crate::rooms::{dump_room, table_room};
-use crate::saying::say_reported;
+use crate::rooms::{DUMP_ROOM, TABLE_ROOM, room};
+use crate::saying::{Said, granted, write_out};
 use crate::taking::take_file;
 
-pub(crate) fn report(rt: &HostRuntime) {
-    let mut table = table_room();
-    let t = take_file(rt, 2, &mut table);
-    if !t.whole {
-        return;
-    }
-    let mut dump = dump_room();
-    let d = take_file(rt, 3, &mut dump);
-    if !d.whole {
-        return;
-    }
-    let table_size = t.size;
-    let dump_size = d.size;
-    say_reported(
-        rt,
-        report_text::report(&table[..table_size], &dump[..dump_size]),
-    );
+// The text is `refused` and the number where the report is refused; then what the number means goes to standard error.
+pub(crate) fn report(rt: &HostRuntime) -> Result<(), Said> {
+    let mut table = room::<TABLE_ROOM>();
+    let table = take_file(rt, 2, &mut table)?;
+    let mut dump = room::<DUMP_ROOM>();
+    let dump = take_file(rt, 3, &mut dump)?;
+    let reported = report_text::report(table, dump);
+    let written = write_out(rt, reported.text.as_bytes());
+    granted(rt, reported.outcome)?;
+    written
 }

@@ -1,170 +1,119 @@
 // The arguments: files, words of hexadecimal digits, and a number.
+ghost use Rattle.std.specs.Prelude.{length, IfOk};
 ghost use Rattle.console.specs.Taken.{IsPrefixLen};
 
-use crate::saying::{cannot_read, misuse, no_text};
-use octets::strings::equal;
+use crate::saying::{Said, cannot_read, misuse, no_text};
 use reading::read_full;
 use std::env::{Env, FillError};
 use std::fs::File;
-use std::io;
 use std::io::Read;
-use wording::decimal::Number;
 use wording::{decimal, hex};
 
 // Room for an argument.
 pub(crate) const ARGUMENT_ROOM: usize = 4096;
 
-// How many bytes were put at the start of a lent room, and whether they are all there: where not, that was said on standard error.
-#[derive(Drop)]
-pub(crate) struct Taken {
-    pub(crate) size: usize,
-    pub(crate) whole: bool,
-}
-
-// Argument i, at the start of the room: how many bytes it has, and 0 where it is missing or too long.
-pub(crate) fn argument(rt: &HostRuntime, i: usize, word: &mut [u8]) -> usize
-    ensures { IsPrefixLen result word.new }
+// Argument i, at the start of the room: nothing where it is missing or too long.
+pub(crate) fn argument<'a>(rt: &HostRuntime, i: usize, word: &'a mut [u8]) -> &'a [u8]
+    ensures { IsPrefixLen (length result.now) word.old }
 {
-    match rt.arg(i, word) {
-        Ok(size) => size,
-        Err(_) => 0,
-    }
+    let size = rt.arg(i, word).unwrap_or(0);
+    &word[..size]
 }
 
 // Whether there is an argument i, however long.
 pub(crate) fn has_argument(rt: &HostRuntime, i: usize) -> bool {
-    let mut word = [0u8; 1];
-    match rt.arg(i, &mut word) {
-        Ok(_) => true,
-        Err(e) => match e {
-            FillError::NotPresent => false,
-            FillError::TooLong => true,
-        },
-    }
+    !matches!(rt.arg(i, &mut [0u8; 1]), Err(FillError::NotPresent))
 }
 
 // Reads to the end of what was opened, or until the room is full.
-fn read_open<R: Read>(rt: &HostRuntime, from: &mut R, path: &[u8], room: &mut [u8]) -> Taken
-    ensures { IsPrefixLen result.size room.new }
+fn read_open<'a, R: Read>(
+    rt: &HostRuntime,
+    from: &mut R,
+    path: &[u8],
+    room: &'a mut [u8],
+) -> Result<&'a [u8], Said>
+    ensures { IfOk result (λ taken. IsPrefixLen (length taken.now) room.old) }
 {
     match read_full(from, room) {
-        Ok(size) => Taken { size, whole: true },
-        Err(e) => {
-            cannot_read(rt, path, &e);
-            Taken {
-                size: 0,
-                whole: false,
-            }
-        }
+        Ok(size) => Ok(&room[..size]),
+        Err(e) => Err(cannot_read(rt, path, &e)),
     }
 }
 
-fn open_path(rt: &HostRuntime, path: &str) -> io::Result<File> {
-    File::open(rt, path)
-}
-
-fn read_path(rt: &HostRuntime, path: &[u8], room: &mut [u8]) -> Taken
-    ensures { IsPrefixLen result.size room.new }
+fn read_path<'a>(rt: &HostRuntime, path: &[u8], room: &'a mut [u8]) -> Result<&'a [u8], Said>
+    ensures { IfOk result (λ taken. IsPrefixLen (length taken.now) room.old) }
 {
-    if equal(path, b"-") {
+    if path == b"-".as_slice() {
         return read_open(rt, &mut rt.stdin(), path, room);
     }
-    let Ok(name) = str::from_utf8(path) else {
-        no_text(rt, path);
-        return Taken {
-            size: 0,
-            whole: false,
-        };
-    };
-    match open_path(rt, name) {
-        Ok(file) => {
-            let mut file = file;
-            read_open(rt, &mut file, path, room)
-        }
-        Err(e) => {
-            cannot_read(rt, path, &e);
-            Taken {
-                size: 0,
-                whole: false,
-            }
-        }
-    }
+    let name = str::from_utf8(path).map_err(|_| no_text(rt, path))?;
+    let mut file = File::open(rt, name).map_err(|e| cannot_read(rt, path, &e))?;
+    read_open(rt, &mut file, path, room)
 }
 
-// The file that argument i names.
-pub(crate) fn take_file(rt: &HostRuntime, i: usize, room: &mut [u8]) -> Taken
-    ensures { IsPrefixLen result.size room.new }
+// The file that argument i names, as far as the room reaches.
+pub(crate) fn take_file<'a>(
+    rt: &HostRuntime,
+    i: usize,
+    room: &'a mut [u8],
+) -> Result<&'a [u8], Said>
+    ensures { IfOk result (λ taken. IsPrefixLen (length taken.now) room.old) }
 {
     let mut path = [0u8; ARGUMENT_ROOM];
-    let Ok(size) = rt.arg(i, &mut path) else {
-        misuse(rt, b"a file name is missing or too long");
-        return Taken {
-            size: 0,
-            whole: false,
-        };
-    };
+    let size = rt
+        .arg(i, &mut path)
+        .map_err(|_| misuse(rt, b"a file name is missing or too long"))?;
     read_path(rt, &path[..size], room)
 }
 
 // The same, and nothing where there is no such argument.
-pub(crate) fn take_optional(rt: &HostRuntime, i: usize, room: &mut [u8]) -> Taken
-    ensures { IsPrefixLen result.size room.new }
+pub(crate) fn take_optional<'a>(
+    rt: &HostRuntime,
+    i: usize,
+    room: &'a mut [u8],
+) -> Result<&'a [u8], Said>
+    ensures { IfOk result (λ taken. IsPrefixLen (length taken.now) room.old) }
 {
     if !has_argument(rt, i) {
-        return Taken {
-            size: 0,
-            whole: true,
-        };
+        return Ok(&room[..0]);
     }
     take_file(rt, i, room)
 }
 
-fn read_word(rt: &HostRuntime, word: &[u8], room: &mut [u8]) -> Taken
-    ensures { IsPrefixLen result.size room.new }
+// The bytes that a word is the digits of.
+fn read_word<'a>(rt: &HostRuntime, word: &[u8], room: &'a mut [u8]) -> Result<&'a [u8], Said>
+    ensures { IfOk result (λ taken. IsPrefixLen (length taken.now) room.old) }
 {
-    if hex::read(word, room) != 0 {
-        misuse(
+    match hex::read(word, room) {
+        Ok(()) => Ok(&room[..word.len() / 2]),
+        Err(_) => Err(misuse(
             rt,
             b"a name, an IV or an identifier is two hexadecimal digits for each byte",
-        );
-        return Taken {
-            size: 0,
-            whole: false,
-        };
-    }
-    Taken {
-        size: word.len() / 2,
-        whole: true,
+        )),
     }
 }
 
 // The bytes that argument i is the digits of. One of more than 4,096 digits is too long for any use, and its front shows that as well.
-pub(crate) fn take_word(rt: &HostRuntime, i: usize, room: &mut [u8]) -> Taken
-    ensures { IsPrefixLen result.size room.new }
+pub(crate) fn take_word<'a>(
+    rt: &HostRuntime,
+    i: usize,
+    room: &'a mut [u8],
+) -> Result<&'a [u8], Said>
+    ensures { IfOk result (λ taken. IsPrefixLen (length taken.now) room.old) }
 {
     let mut word = [0u8; ARGUMENT_ROOM];
     match rt.arg(i, &mut word) {
         Ok(size) => read_word(rt, &word[..size], room),
-        Err(e) => match e {
-            FillError::TooLong => read_word(rt, &word, room),
-            FillError::NotPresent => {
-                misuse(rt, b"a name, an IV or an identifier is missing");
-                Taken {
-                    size: 0,
-                    whole: false,
-                }
-            }
-        },
+        Err(FillError::TooLong) => read_word(rt, &word, room),
+        Err(FillError::NotPresent) => Err(misuse(rt, b"a name, an IV or an identifier is missing")),
     }
 }
 
-// The number that argument i is the decimal digits of; where it is none, that was said on standard error.
-pub(crate) fn take_number(rt: &HostRuntime, i: usize) -> Number {
+// The number that argument i is the decimal digits of.
+pub(crate) fn take_number(rt: &HostRuntime, i: usize) -> Result<u64, Said> {
     let mut word = [0u8; ARGUMENT_ROOM];
-    let size = argument(rt, i, &mut word);
-    let number = decimal::read(&word[..size]);
-    if let Number::No = number {
-        misuse(rt, b"a type is a number in decimal digits");
-    }
-    number
+    decimal::read(argument(rt, i, &mut word)).ok_or_else(|| misuse(
+        rt,
+        b"a type is a number in decimal digits",
+    ))
 }
