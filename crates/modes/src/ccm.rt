@@ -18,7 +18,7 @@ use crate::sizes::{IV_SIZE, SHORT};
 use crate::tag::check_tag;
 use cbc_mac::{absorb, close};
 use octets::big_endian::bytes16;
-use octets::strings::{Block, put, xor_blocks};
+use octets::strings::{Block, put, xor};
 use refusals::Refusal;
 
 // The flags of the first block: 7Ah with associated data, 3Ah without.
@@ -94,7 +94,7 @@ pub(crate) fn seal(aes: Cipher, m: Message, out: &mut [u8]) -> Result<(), Refusa
     };
     let begun = chain_start(pads, m);
     let z = pass::<Sealing>(pads, begun.chain, m.text, out);
-    let tag = xor_blocks(z, begun.pad);
+    let tag = xor(z, begun.pad);
     put(&mut out[n..], &tag);
     Ok(())
 }
@@ -110,7 +110,7 @@ pub(crate) fn verify(aes: Cipher, m: Message, tag: &[u8]) -> Result<(), Refusal>
     };
     let begun = chain_start(pads, m);
     let z = pass::<Opening>(pads, begun.chain, m.text, &mut []);
-    let right = xor_blocks(z, begun.pad);
+    let right = xor(z, begun.pad);
     check_tag(tag, &right)
 }
 

@@ -15,7 +15,7 @@ use crate::sizes::IV_SIZE;
 use crate::tag::check_tag;
 use ghash::hash::ghash_parts;
 use octets::big_endian::bytes64;
-use octets::strings::{Block, put, two_eights, xor_blocks};
+use octets::strings::{Block, put, two_eights, xor};
 use refusals::Refusal;
 
 // The counter blocks' front, with a field of zeros.
@@ -43,7 +43,7 @@ fn tag_of(pads: KeyStream<4>, m: Message) -> Block
     let both = pads.aes.encrypt_two([0; 16], pads.block(1));
     let key = Block::from(both.one);
     let s = ghash_parts(key, m.a, m.b, m.text, lengths_block(m));
-    xor_blocks(s, Block::from(both.other))
+    xor(s, Block::from(both.other))
 }
 
 pub(crate) fn seal(aes: Cipher, m: Message, out: &mut [u8]) -> Result<(), Refusal>

@@ -11,7 +11,7 @@ use crate::counter::KeyStream;
 use crate::passes::{Opening, pass};
 use crate::sizes::SHORT;
 use crate::tag::check_tag;
-use octets::strings::{Block, xor_blocks};
+use octets::strings::{Block, xor};
 use refusals::Refusal;
 
 // The sum of a ciphertext and its pads over the front of the output.
@@ -39,7 +39,7 @@ pub(crate) fn open_short(
     let n = c.len();
     let mut kept = [0; SHORT];
     let z = pass::<Opening>(pads, y, c, &mut kept);
-    let right = xor_blocks(z, s0);
+    let right = xor(z, s0);
     check_tag(tag, &right)?;
     put_sum(out, c, &kept[..n]);
     Ok(())

@@ -1,14 +1,13 @@
--- Strings written in parts: a part of the output that was lent and came back; what is made of each byte, and a sum, written byte by byte; parts of zeros.
+-- Strings written in parts: a part of the output that was lent and came back; parts of zeros; and a sum written byte by byte.
 -- Assumes nothing.
 use mathlib.Core.Path.{◌≡◌, refl, sym, ap, ap₂, ◌∙◌}
-use mathlib.Core.List.{List, [], ◌∷◌, ◌++◌, append_assoc, append-nil, map, map-append}
+use mathlib.Core.List.{List, [], ◌∷◌, ◌++◌, append_assoc, append-nil}
 use Prim.Native.Nat.{ℕ, zero, suc, ◌+◌, ◌-◌, ◌≤◌, ◌<◌}
 use native.Mathlib.Nat.{sub-zero, zero-sub, suc-sub-suc, le_of_suc-le-suc, not-suc-le-zero}
-use native.Mathlib.Numerals.{add-one}
 use native.Mathlib.Omega.{arith}
 use lib.Bits.{bit_xor}
 use lib.ListN.{length, get_or, set, take, drop, replicate, length-replicate, length-append, length-take, length-drop, drop_of_length-le}
-use lib.Seq.{take_all, take_at, take-suc, take-suc-set, drop_at, drop-drop}
+use lib.Seq.{take_all, take_at, drop_at, drop-drop}
 use Rattle.octets.specs.Xor.{xors}
 use Rattle.octets.specs.Blocks.{fill}
 use Rattle.octets.specs.Lent.{over}
@@ -55,15 +54,6 @@ block-put out b a {ys} size fits e =
     ∙ append-nil (b ++ drop (length b) (drop a out))
     ∙ ap (λ (n : ℕ). b ++ drop n (drop a out)) size)
 
--- ---- what f makes of each byte of b, written byte by byte: the next one
-
-pub map_turn : (f : ℕ → ℕ) (b r : List ℕ) (i : ℕ) → i < length b → i < length r → take i r ≡ map f (take i b)
-    → take (i + 1) (set r i (f (get_or b i 0))) ≡ map f (take (i + 1) b)
-map_turn f b r i hb hr done =
-    rw (add-one i)
-    (take-suc-set r i (f (get_or b i 0)) hr ∙ ap (λ (l : List ℕ). l ++ f (get_or b i 0) ∷ []) done
-    ∙ sym (ap (map f) (take-suc b i 0 hb) ∙ map-append f (take i b) (get_or b i 0 ∷ [])))
-
 -- ---- parts of zeros, and a string over them
 
 drop-zeros : (n k : ℕ) → drop {A = ℕ} n (replicate k 0) ≡ replicate (k - n) 0
@@ -104,24 +94,6 @@ module _ (a b : List ℕ) (n : ℕ) (first : length a ≡ n) (second : length b 
       ∙ append-nil (xors a b)
 
 module _ (s pad : List ℕ) (size : length pad ≡ 16) (short : length s ≤ 16) where
-  pub summed_turn : {x : List ℕ} (j : ℕ) → j < length s → x ≡ take j (xors s pad) ++ drop j (replicate 16 0)
-      → set x j (bit_xor (get_or s j 0) (get_or pad j 0)) ≡ take (j + 1) (xors s pad) ++ drop (j + 1) (replicate 16 0)
-  summed_turn j h e =
-      ap₂ (λ (l : List ℕ) (v : ℕ). set l j v) e (sym (get_d-xors s pad j h (omega arith)))
-      ∙ over_turn (xors s pad) (replicate 16 0) j (omega (arith, length-xors s pad (omega arith))) (omega arith)
-
-  pub summed_end : {x : List ℕ} (j : ℕ) → j ≤ length s → length s ≤ j → x ≡ take j (xors s pad) ++ drop j (replicate 16 0) → x ≡ fill (xors s pad)
-  summed_end j le ge e =
-      e
-      ∙ ap₂ (λ (a b : List ℕ). a ++ b) (take_all j (xors s pad) (omega (arith, long))) (drop-zeros j 16)
-      ∙ ap (λ (n : ℕ). xors s pad ++ replicate (16 - n) 0) end
-    where
-      long : length (xors s pad) ≡ length s
-      long = length-xors s pad (omega arith)
-
-      end : j ≡ length (xors s pad)
-      end = omega (arith, long)
-
   pub summed-put : (out : List ℕ) {x after : List ℕ} → length out ≡ length s → x ≡ fill (xors s pad) → after ≡ over x out → after ≡ xors s pad
   summed-put out {x} room ex ea =
       ea

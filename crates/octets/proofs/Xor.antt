@@ -8,11 +8,10 @@ use native.Mathlib.Omega.{arith}
 use lib.Arith.{bin_ind}
 use lib.Bits.{bit_xor, differ, xor_step, xor_shr, xor_mod, xor_lt, xor_comm, xor_self, xor_zero_l, xor_zero_r}
 use lib.Dec.{lit<}
-use lib.ListN.{length, get_or, take, replicate}
-use Rattle.octets.specs.Values.{values}
+use lib.ListN.{length, take, replicate}
 use Rattle.octets.specs.Bytes.{Bytes}
 use Rattle.octets.specs.Xor.{xors}
-use Rattle.octets.proofs.Values.{cons_equal, values-later}
+use Rattle.octets.proofs.Values.{cons_equal}
 use Rattle.octets.proofs.Bytes.{bytes_nil, bytes_cons, bytes_head, bytes_tail}
 
 -- two sums of two, with the inner terms exchanged, of whatever may be bracketed and ordered freely
@@ -125,11 +124,3 @@ pub bytes-xors : {a b : List ℕ} → Bytes a → Bytes b → Bytes (xors a b)
 bytes-xors {a = []} ha hb = bytes_nil
 bytes-xors {a = x ∷ a} {b = []} ha hb = bytes_nil
 bytes-xors {a = x ∷ a} {b = y ∷ b} ha hb = bytes_cons (xor_byte (bytes_head ha) (bytes_head hb)) (bytes-xors (bytes_tail ha) (bytes_tail hb))
-
-pub xors-values : (a b : List ℕ) (n : ℕ) → length a ≡ n → length b ≡ n → xors a b ≡ values (λ k. bit_xor (get_or a k 0) (get_or b k 0)) 0 n
-xors-values [] b zero ha hb = refl
-xors-values [] b (suc n) ha hb = absurd (omega arith)
-xors-values (x ∷ a) b zero ha hb = absurd (omega arith)
-xors-values (x ∷ a) [] (suc n) ha hb = absurd (omega arith)
-xors-values (x ∷ a) (y ∷ b) (suc n) ha hb =
-    cons_equal refl (xors-values a b n (omega arith) (omega arith) ∙ sym (values-later (λ k. bit_xor (get_or (x ∷ a) k 0) (get_or (y ∷ b) k 0)) 0 n))

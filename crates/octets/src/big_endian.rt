@@ -1,4 +1,5 @@
 // Big-endian numbers of 1, 2, 4 and 8 bytes. Reading past the end of a string gives zeros.
+// A width has functions of its own, as it has in std: to_be_bytes and from_be_bytes are methods of u16, u32 and u64.
 ghost use Rattle.std.specs.Prelude.{◌≡◌, ◌<◌, get_or};
 ghost use Rattle.octets.specs.Values.{bytes_at};
 ghost use Rattle.octets.specs.BigEndian.{be, number_at};

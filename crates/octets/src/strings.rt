@@ -35,13 +35,6 @@ pub fn xor<const N: usize>(a: [u8; N], b: [u8; N]) -> [u8; N]
     sum
 }
 
-// Of two blocks.
-pub fn xor_blocks(a: Block, b: Block) -> Block
-    ensures { result ≡ xors a b }
-{
-    xor(a, b)
-}
-
 // Writes s over the front of out, as far as out reaches.
 pub fn put(out: &mut [u8], s: &[u8])
     ensures { out.new ≡ over s.now out.old }
@@ -89,26 +82,14 @@ pub fn first<const N: usize>(s: &[u8]) -> [u8; N]
     b
 }
 
-pub fn first16(s: &[u8]) -> Block
-    ensures { result ≡ over s.now (replicate 16 0) }
-{
-    first(s)
-}
-
-pub fn first32(s: &[u8]) -> [u8; 32]
-    ensures { result ≡ over s.now (replicate 32 0) }
-{
-    first(s)
-}
-
 // Eight bytes and then eight.
 pub fn two_eights(a: [u8; 8], b: [u8; 8]) -> Block
     ensures { result ≡ a ++ b }
 {
-    [
-        a[0], a[1], a[2], a[3], a[4], a[5], a[6], a[7], b[0], b[1], b[2], b[3], b[4], b[5], b[6],
-        b[7],
-    ]
+    let mut both = [0; 16];
+    both[..8].copy_from_slice(&a);
+    both[8..].copy_from_slice(&b);
+    both
 }
 
 // The n bytes from place i on, as far as the string reaches, as the part of the string that they are.

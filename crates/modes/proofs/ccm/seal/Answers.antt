@@ -14,4 +14,4 @@ returns c =
     let sealed = c.pass-z.ensures in
     sealed_steps (cipher a.aes.keyed.keys.now) (cipher-length a.aes.keyed.keys.now) a.m.iv.now (a.m.a.now ++ a.m.b.now) a.m.iv_size c.base_of.ensures
     a.m.text.now a.out.now c.requires c.chain_start-begun.ensures.chain_value sealed.value sealed.out_after
-    (c.xor_blocks-tag.ensures ∙ ap (xors c.pass-z.result) c.chain_start-begun.ensures.pad_value) c.put.ensures
+    (c.xor-tag.ensures ∙ ap (xors c.pass-z.result) c.chain_start-begun.ensures.pad_value) c.put.ensures

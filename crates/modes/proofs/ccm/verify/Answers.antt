@@ -13,4 +13,4 @@ returns c =
     let a = c.args in
     opened-number (cipher a.aes.keyed.keys.now) (cipher-length a.aes.keyed.keys.now) a.m.iv.now (a.m.a.now ++ a.m.b.now) a.m.iv_size c.base_of.ensures
     a.m.text.now a.tag.now c.requires c.chain_start-begun.ensures.chain_value c.pass-z.ensures.value
-    (c.xor_blocks-right.ensures ∙ ap (xors c.pass-z.result) c.chain_start-begun.ensures.pad_value) c.check_tag.ensures
+    (c.xor-right.ensures ∙ ap (xors c.pass-z.result) c.chain_start-begun.ensures.pad_value) c.check_tag.ensures

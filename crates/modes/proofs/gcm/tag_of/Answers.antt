@@ -12,4 +12,4 @@ returns c =
     let a = c.args in
     let ciphered = c.encrypt_two-both.ensures in
     tag_steps (cipher a.pads.aes.keyed.keys.now) (front_of true a.pads.base) a.m.a.now a.m.b.now a.m.text.now (c.from-key.ensures ∙ ciphered.0)
-    c.lengths_block.ensures c.ghash_parts-s.ensures c.block.ensures (c.from.ensures ∙ ciphered.1) c.xor_blocks.ensures
+    c.lengths_block.ensures c.ghash_parts-s.ensures c.block.ensures (c.from.ensures ∙ ciphered.1) c.xor.ensures

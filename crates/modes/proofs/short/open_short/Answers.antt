@@ -17,7 +17,7 @@ returns c =
     let a = c.args in
     let F = cipher a.pads.aes.keyed.keys.now in
     let front = front_of false a.pads.base in
-    let tested : 0 ≡ tag_decides (same a.tag.now c.xor_blocks-right.result) = search rules in
+    let tested : 0 ≡ tag_decides (same a.tag.now c.xor-right.result) = search rules in
     answer_passed (ctr F 3 front 1 a.c.now) a.out.now
-    (short-number F (cipher-length a.pads.aes.keyed.keys.now) front a.c.now a.tag.now a.y c.pass-z.ensures.value c.requires.2 c.xor_blocks-right.ensures tested)
+    (short-number F (cipher-length a.pads.aes.keyed.keys.now) front a.c.now a.tag.now a.y c.pass-z.ensures.value c.requires.2 c.xor-right.ensures tested)
     (short-put F (cipher-length a.pads.aes.keyed.keys.now) front a.c.now short_max c.requires.0 c.pass-z.ensures.out_after a.out.now c.put_sum.ensures)
