@@ -20,7 +20,8 @@ loop-b-preserved c =
     let a = c.args in
     let f = cipher_by a.cipher.tables.now a.cipher.keys.now in (
       omega arith,
-      ap (λ (x : List ℕ). absorb f 0 x (drop ((l.b-index + 1) * 16) a.part.now)) (c.encrypt-x.ensures.by-tables ∙ ap f (c.from-in-loop-b-2.ensures ∙ c.add_halves.ensures ∙ ap₂ xors c.from.ensures c.from-in-loop-b.ensures))
+      ap (λ (x : List ℕ). absorb f 0 x (drop ((l.b-index + 1) * 16) a.part.now))
+          (c.encrypt-x.ensures.by-tables ∙ ap f (c.from-in-loop-b-2.ensures ∙ c.add_halves.ensures ∙ ap₂ xors c.from.ensures c.from-in-loop-b.ensures))
           ∙ absorb_chunk f l.x a.part.now l.b-index l.invariant.0 c.as_chunks.result.0.now c.as_chunks.ensures.front
           (omega (arith, c.as_chunks.ensures.front_len))
           ∙ l.invariant.1,
