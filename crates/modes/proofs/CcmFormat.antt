@@ -2,12 +2,12 @@
 -- Assumes nothing.
 use mathlib.Core.Path.{◌≡◌, refl, sym, ap, ap₂, ◌∙◌}
 use mathlib.Core.Bool.{Bool, true, false, not, false≢true}
-use mathlib.Core.List.{List, [], ◌∷◌, ◌++◌}
+use mathlib.Core.List.{List, ◌∷◌, ◌++◌}
 use Prim.Native.Nat.{ℕ, suc, ◌+◌, ◌-◌, ◌%◌, ◌≤◌}
 use native.Mathlib.Omega.{arith}
 use borrow.Author.Tests.{eq-eqb, ne_eqb}
 use lib.Dec.{eqb, lit<, lit≤}
-use lib.ListN.{length, set, take, drop, length-append}
+use lib.ListN.{length, take, drop, length-append}
 use lib.Seq.{take_at}
 use Rattle.octets.specs.BigEndian.{be}
 use Rattle.octets.specs.Bytes.{Bytes}
@@ -33,11 +33,6 @@ use Rattle.octets.proofs.Lent.{over_then}
 pub first_block-parts : (iv a b : List ℕ) (n : ℕ) → flags (not (eqb (length a + length b) 0)) ∷ (iv ++ be 3 n) ≡ first_block iv (a ++ b) n
 unfolding first_block
 first_block-parts iv a b n = rw (length-append a b)
-
--- counter block n with the flags v in the place of its first byte
-pub first_stored : (base : List ℕ) (n v : ℕ) → length base ≡ 16 → set (counter_block 3 (front_of false base) n) 0 v ≡ v ∷ (drop 1 (front_of false base) ++ be 3 n)
-first_stored [] n v size = absurd (omega arith)
-first_stored (x ∷ base) n v size = refl
 
 pub front_base : (iv : List ℕ) → length iv ≡ 12 → front_of false (counter_front iv ++ be 3 0) ≡ counter_front iv
 front_base iv size = take_at (counter_front iv) (be 3 0) 13 (ap suc size)

@@ -1,12 +1,12 @@
 -- The counter block as the code writes it, what blocks and counters come next, and the tests of lengths and of the counter field.
 -- Assumes nothing.
-use mathlib.Core.Path.{◌≡◌, refl, ap, ap₂, ◌∙◌}
-use mathlib.Core.Bool.{Bool, true, false, not}
+use mathlib.Core.Path.{◌≡◌, ap, ap₂, ◌∙◌}
+use mathlib.Core.Bool.{true, false}
 use mathlib.Core.List.{List, ◌++◌, append-nil}
 use Prim.Native.Nat.{ℕ, zero, suc, ◌+◌, ◌-◌, ◌/◌, ◌%◌, ◌^◌, ◌≤◌, ◌<◌, min}
 use native.Mathlib.Omega.{arith}
-use borrow.Author.Tests.{leb-true, leb-false, lt-ltb, le-ltb, le-leb}
-use lib.Dec.{ltb, leb, lit<}
+use borrow.Author.Tests.{le-leb}
+use lib.Dec.{lit<}
 use lib.ListN.{length, take, drop, length-drop, drop_of_length-le}
 use Rattle.std.proofs.Math.Nat.{pow-le-pow_right}
 use lib.Seq.{take_all}
@@ -61,23 +61,8 @@ module _ (b n : ℕ) {h : ℕ} (is : h ≡ min n b) where
 pub odd-one : (i h : ℕ) → i % 2 ≤ h + 1
 odd-one i h = omega arith
 
--- ---- tests
+-- ---- the limit of a field of less than eight bytes is a number of 64 bits
 
-ltb-leb : (a b : ℕ) → ltb a b ≡ not (leb b a)
-ltb-leb a b = go (leb b a) refl
-  where
-    go : (t : Bool) → leb b a ≡ t → ltb a b ≡ not t
-    go true e = le-ltb a b (leb-true b a e)
-    go false e = lt-ltb a b (leb-false b a e)
-
--- the counters run over exactly where the last is past the limit
-pub counter_fits_past : (w i n : ℕ) {limit more : ℕ} → limit ≡ 256 ^ w → more ≡ n / 16 + min 1 (n % 16) → ltb limit (i + more) ≡ not (counter_fits w i n)
-counter_fits_past w i n {more = more} el em = ap₂ ltb el last ∙ ltb-leb (256 ^ w) (i + blocks n)
-  where
-    last : i + more ≡ i + blocks n
-    last = omega arith
-
--- and the limit of a field of less than eight bytes is a number of 64 bits
 pub limit_fits : (w : ℕ) → w < 8 → 256 ^ w < 18446744073709551616
 limit_fits w h = let le : 256 ^ w ≤ 256 ^ 7 = pow-le-pow_right {n = 256} (lit< tt) {i = w} {j = 7} (omega arith) in omega arith
 

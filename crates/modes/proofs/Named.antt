@@ -26,9 +26,6 @@ each_mode Holds second first u = go (eqb u 2)
 module _ (u : ℕ) where
   -- ---- lengths
 
-  pub named_iv_size : 12 ≡ (mode_of u).iv_size
-  named_iv_size = each_mode (λ (m : Mode). 12 ≡ m.iv_size) refl refl u
-
   pub named-tag_size : 16 ≡ (mode_of u).tag_size
   named-tag_size = each_mode (λ (m : Mode). 16 ≡ m.tag_size) refl refl u
 

@@ -4,7 +4,6 @@ use mathlib.Core.Path.{◌≡◌, refl, sym, ap, ap₂, ◌∙◌}
 use mathlib.Core.Bool.{Bool, true, false}
 use mathlib.Core.List.{List, ◌++◌}
 use Prim.Native.Nat.{ℕ, ◌+◌, ◌≤◌}
-use native.Mathlib.Nat.{add-zero}
 use borrow.Author.Tests.{ltb-false, eq-eqb, ne_eqb, le-ltb}
 use lib.Dec.{ltb}
 use lib.ListN.{length}
@@ -72,11 +71,6 @@ module _ (m : Mode) (key iv a b p out : List ℕ) where
   encrypt-done none = answer_passed (sealed m key iv (a ++ b) p) out none refl
 
 -- ---- decryption
-
--- the number as the code finds it
-pub decrypt_tested : (a b c : List ℕ) (room : ℕ) {wrong right : Bool} {n : ℕ} → wrong ≡ right → n ≡ lowest (argument_tests wrong a b c (length c + 0) room)
-    → n ≡ lowest (argument_tests right a b c (length c) room)
-decrypt_tested a b c room ew e = e ∙ ap₂ (λ (w : Bool) (k : ℕ). lowest (argument_tests w a b c k room)) ew (add-zero (length c))
 
 module _ (m : Mode) (key iv a b c t out : List ℕ) where
   abbrev wrong_any : Bool

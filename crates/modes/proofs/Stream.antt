@@ -129,13 +129,6 @@ module _ {f : List ℕ → List ℕ} {w : ℕ} {front : List ℕ} {i : ℕ} {s b
   pub partly_start : Partly f w front i s before 0 i before
   partly_start = record { inside = omega arith; room = refl; counted = omega arith; written = refl; kept = refl }
 
-  -- all that is left
-  pub partly-rest : {at k : ℕ} {out : List ℕ} → Partly f w front i s before at k out → length s ≤ length before
-      → (length (take (length s - at) (drop at s)) ≡ length s - at) × (length (take (length s - at) (drop at out)) ≡ length (take (length s - at) (drop at s)))
-  partly-rest {at} {k} {out} p fits =
-      let text = part_length s at (length s) (omega arith) in
-      (text, part_length out at (length s) (omega (arith, p.room)) ∙ sym text)
-
   module _ {at k : ℕ} {out : List ℕ} (p : Partly f w front i s before at k out) (fits : length s ≤ length before) (size : (x : List ℕ) → length (f x) ≡ 16) where
     -- m blocks more, or all that there is, up to place e
     pub partly_turn : (m e : ℕ) {ys : List ℕ} → at ≤ e → k + m ≤ i + 1 + e → e ≤ length s → (e < length s → e ≡ at + 16 * m)
