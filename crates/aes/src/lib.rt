@@ -41,7 +41,7 @@ pub fn expand_key(key: Key) -> RoundKeys
     extend(load(first(front)), load(first(back)))
 }
 
-#[tactic(auto, using(crate::specs::Cipher::Inside::cipher_is))]
+#[tactic(auto, using(crate::proofs::Rounds::cipher_steps))]
 pub fn encrypt(ks: RoundKeys, block: Block) -> Block
     ensures { result ≡ cipher ks block }
 {
@@ -49,7 +49,7 @@ pub fn encrypt(ks: RoundKeys, block: Block) -> Block
     store(last_round(all_rounds(ks, s), ks[LAST_ROUND]))
 }
 
-#[tactic(auto, using(crate::specs::InvCipher::Inside::inv_cipher_is))]
+#[tactic(auto, using(crate::proofs::Rounds::inv_cipher_steps))]
 pub fn decrypt(ks: RoundKeys, block: Block) -> Block
     ensures { result ≡ inv_cipher ks block }
 {
@@ -72,7 +72,9 @@ fn change<F: FnOnce(RoundKeys, Block) -> Block>(
     way: F,
 ) -> Result<(), Refusal>
     requires { F.IsAlwaysCallable way }
-    ensures { MatchResult result (λ _. (r : List ℕ) × (wrong_lengths key.now block.old ≡ false) × F.post way (schedule key.now) block.old r × (block.new ≡ over r block.old)) (λ e. (wrong_lengths key.now block.old ≡ true) × (e ≡ Refusal.Layout) × (block.new ≡ block.old)) }
+    ensures { MatchResult result
+        (λ _. (r : List ℕ) × (wrong_lengths key.now block.old ≡ false) × F.post way (schedule key.now) block.old r × (block.new ≡ over r block.old))
+        (λ e. (wrong_lengths key.now block.old ≡ true) × (e ≡ Refusal.Layout) × (block.new ≡ block.old)) }
 {
     if wrong_lengths(key, block) {
         return Err(Refusal::Layout);
