@@ -12,7 +12,7 @@ use Rattle.octets.specs.Lent.{when, kept}
 use Rattle.octets.proofs.Lent.{length_over}
 use Rattle.std.specs.Prelude.{Result, Ok, Err}
 use Rattle.refusals.specs.declared.Refusal.{Refusal}
-use Rattle.refusals.proofs.Laws.{number_unique, not_zero}
+use Rattle.refusals.proofs.Laws.{refusal_unique, not_zero}
 use Rattle.wording.specs.declared.text.Text.{Text}
 use Rattle.wording.proofs.Told.{text_told}
 use Rattle.wording.specs.Decimal.{digits_within, decimal}
@@ -74,7 +74,7 @@ described_same : (x y : Result (Text described_room) Refusal) → described_says
 described_same (Ok t) (Ok u) e = ap Ok (text_told t u (ap (λ (a : ℕ × ℕ × List ℕ). (a.1, a.2)) e))
 described_same (Ok t) (Err f) e = absurd (not_zero f (ap (λ (a : ℕ × ℕ × List ℕ). a.0) e))
 described_same (Err d) (Ok u) e = absurd (not_zero d (sym (ap (λ (a : ℕ × ℕ × List ℕ). a.0) e)))
-described_same (Err d) (Err f) e = ap Err (number_unique d f (ap (λ (a : ℕ × ℕ × List ℕ). a.0) e))
+described_same (Err d) (Err f) e = ap Err (refusal_unique d f (ap (λ (a : ℕ × ℕ × List ℕ). a.0) e))
 
 pub label_described_unique : LabelDescribedUnique
 label_described_unique s x y p q = described_same x y (p ∙ sym q)

@@ -5,7 +5,7 @@ use Prim.Native.Nat.{ℕ}
 use Rattle.std.specs.Prelude.{List, [], ◌∷◌, get_or, Result, Ok, Err}
 use Rattle.std.specs.Result.{IsErrAnd, IsOk}
 use Rattle.refusals.specs.Numbers.{number_of, outcome_number, outcome_says}
-use Rattle.refusals.specs.Laws.{NumberUnique, OutcomeUnique}
+use Rattle.refusals.specs.Laws.{RefusalUnique, OutcomeUnique}
 use Rattle.refusals.specs.declared.Refusal.{Refusal}
 use Rattle.refusals.specs.declared.Refusal.TheVariants.{TableLayout, Layout, NotPermitted, PastMaximum, NoRoom, NoRow, OtherUse, WrappedLength, WrongTag, SessionSpent, CounterRunsOver}
 
@@ -40,8 +40,8 @@ abbrev refusal_in : Result (Unit {0}) Refusal → Refusal
 refusal_in (Ok u) = Layout
 refusal_in (Err e) = e
 
-pub number_unique : NumberUnique
-number_unique a b e = ap refusal_in (outcome_unique (Err a) (Err b) e)
+pub refusal_unique : RefusalUnique
+refusal_unique a b e = ap refusal_in (outcome_unique (Err a) (Err b) e)
 
 -- no refusal has the number of an answer that is none
 pub not_zero : (e : Refusal) → 0 ≡ number_of e → ⊥
@@ -53,7 +53,7 @@ pub says_same : {A : Type 0} (values : A → List ℕ) → ((a b : A) → values
 says_same values tell (Ok a) (Ok b) e = ap Ok (tell a b (ap (λ (p : ℕ × List ℕ). p.1) e))
 says_same values tell (Ok a) (Err f) e = absurd (not_zero f (ap (λ (p : ℕ × List ℕ). p.0) e))
 says_same values tell (Err d) (Ok b) e = absurd (not_zero d (sym (ap (λ (p : ℕ × List ℕ). p.0) e)))
-says_same values tell (Err d) (Err f) e = ap Err (number_unique d f (ap (λ (p : ℕ × List ℕ). p.0) e))
+says_same values tell (Err d) (Err f) e = ap Err (refusal_unique d f (ap (λ (p : ℕ × List ℕ). p.0) e))
 
 -- a refusal that `?` hands on keeps its number
 pub passed_on : {A : Type 0} (r : Result A Refusal) (e : Refusal) → IsErrAnd r (λ x. x ≡ e) → outcome_number r ≡ number_of e

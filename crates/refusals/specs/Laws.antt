@@ -5,8 +5,8 @@ use Rattle.refusals.specs.Numbers.{number_of, outcome_number}
 use Rattle.refusals.specs.declared.Refusal.{Refusal}
 
 -- no two refusals have one number
-abbrev pub NumberUnique : Type 0
-NumberUnique = (a b : Refusal) → number_of a ≡ number_of b → a ≡ b
+abbrev pub RefusalUnique : Type 0
+RefusalUnique = (a b : Refusal) → number_of a ≡ number_of b → a ≡ b
 
 -- so the number of an answer that brings nothing tells the answer
 abbrev pub OutcomeUnique : Type 0
