@@ -36,10 +36,10 @@ module _ (r : List ℕ) where
   unfolding header_answer header_number
   header_four e f g = rw (e, f, g)
 
-  pub header-zero : layout_ok r ≡ true → names_mode (mode_in r) ≡ true → passes (name_size_lem r) (count_in r) ≡ false
+  pub header_zero : layout_ok r ≡ true → names_mode (mode_in r) ≡ true → passes (name_size_lem r) (count_in r) ≡ false
       → header_answer r ≡ (0, mode_in r ∷ name_size_lem r ∷ count_in r ∷ [])
   unfolding header_answer header_number
-  header-zero e f g = rw (e, f, g)
+  header_zero e f g = rw (e, f, g)
 
   pub header-number : (h : Result Header Refusal) → header_says h ≡ header_answer r → (header_says h).0 ≡ header_number r
   unfolding header_answer
@@ -76,7 +76,7 @@ header_accepted r u k n e =
     mode_ok = not-false (names_mode (mode_in r)) (no 1)
 
     whole : ◌≡◌ {A = ℕ × List ℕ} (0, u ∷ k ∷ n ∷ []) (0, mode_in r ∷ name_size_lem r ∷ count_in r ∷ [])
-    whole = e ∙ header-zero r layout mode_ok (no 2)
+    whole = e ∙ header_zero r layout mode_ok (no 2)
 
 -- and within their maxima
 pub fields_within : (r : List ℕ) (u k n : ℕ) → HeaderAccepted r u k n → (k ≤ name_max) × (n ≤ text_max)

@@ -62,6 +62,7 @@ impl Header {
     }
 
     // The header that has these fields.
+    #[tactic(auto, unfolding(crate::specs::Record::header))]
     pub(crate) fn bytes(self) -> [u8; NAME_AT]
         requires { (self.k ≤ name_max) × (self.n ≤ text_max) }
         ensures { result ≡ header self.mode self.k self.n }
@@ -113,6 +114,7 @@ pub(crate) fn passes_maximum(k: usize, n: usize) -> bool
 }
 
 // Reads a record's header: its fields, or 2, 3 or 4.
+#[tactic(auto, using(crate::proofs::Reading::header_two, crate::proofs::Reading::header_three, crate::proofs::Reading::header_four, crate::proofs::Reading::header_zero))]
 pub fn read(r: &[u8]) -> Result<Header, Refusal>
     ensures { header_says result ≡ header_answer r.now }
 {
