@@ -56,7 +56,7 @@ pub fn put_both(first: &[u8], second: &[u8], out: &mut [u8])
     put(&mut out[middle..], second);
 }
 
-// The same of three.
+// The same of three. One function for any list of slices would have to add up their lengths, and the sum may not fit.
 #[tactic(auto, using(crate::proofs::Lent::over_then, crate::proofs::Lent::length_over))]
 pub fn put_three(first: &[u8], second: &[u8], third: &[u8], out: &mut [u8])
     ensures { out.new ≡ over (first.now ++ (second.now ++ third.now)) out.old }
@@ -100,7 +100,7 @@ pub fn part_in(s: &[u8], i: usize, n: usize) -> &[u8]
     &rest[..n.min(rest.len())]
 }
 
-// The same, for callers that ask for no more than its bytes.
+// The same, for callers that ask for no more than its bytes: their proofs then name no place.
 pub fn part(s: &[u8], i: usize, n: usize) -> &[u8]
     ensures { result.now ≡ part_of s.now i n }
 {
