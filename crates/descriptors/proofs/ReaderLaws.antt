@@ -12,7 +12,7 @@ use Rattle.octets.specs.Places.{placed, part_in}
 use Rattle.octets.proofs.Unique.{unique}
 use Rattle.std.specs.Prelude.{Result, Ok, Err}
 use Rattle.refusals.specs.declared.Refusal.{Refusal}
-use Rattle.refusals.proofs.Laws.{number_unique, not_zero}
+use Rattle.refusals.proofs.Laws.{refusal_unique, not_zero}
 use Rattle.octets.specs.Split.{Split}
 use Rattle.descriptors.specs.Tested.{list_ok, unreserved, count_of}
 use Rattle.descriptors.specs.Steps.{cursor_at_start, BegunAnswer, AdvanceAnswer, advance_of, part_shown, cursor_after}
@@ -117,7 +117,7 @@ opened_same : (l : Bor (List ℕ)) (label strict : Bool) (x y : Result Opened Re
 opened_same l label strict (Ok b) (Ok d) e = ap (λ (a : OpenedAnswer). Ok (record { count = a.count; reader = a.reader })) e
 opened_same l label strict (Ok b) (Err f) e = absurd (not_zero f (ap (λ (a : OpenedAnswer). a.number) e))
 opened_same l label strict (Err d) (Ok b) e = absurd (not_zero d (sym (ap (λ (a : OpenedAnswer). a.number) e)))
-opened_same l label strict (Err d) (Err f) e = ap Err (number_unique d f (ap (λ (a : OpenedAnswer). a.number) e))
+opened_same l label strict (Err d) (Err f) e = ap Err (refusal_unique d f (ap (λ (a : OpenedAnswer). a.number) e))
 
 pub reader_open_unique : ReaderOpenUnique
 reader_open_unique l label strict x y p q = opened_same l label strict x y (p ∙ sym q)

@@ -9,7 +9,7 @@ use lib.ListN.{length, get_or}
 use Rattle.std.specs.Prelude.{Option, Some, None, Result, Ok, Err}
 use Rattle.octets.proofs.Unique.{unique}
 use Rattle.refusals.specs.declared.Refusal.{Refusal}
-use Rattle.refusals.proofs.Laws.{number_unique, not_zero, says_same}
+use Rattle.refusals.proofs.Laws.{refusal_unique, not_zero, says_same}
 use Rattle.descriptors.specs.Tested.{tested_says, list_check}
 use Rattle.descriptors.specs.Steps.{step_says, BegunAnswer, begun_says, AdvanceAnswer, advance_says, list_step}
 use Rattle.descriptors.specs.Labels.{label_check}
@@ -33,13 +33,13 @@ step_same (Ok (Some p)) (Err f) e = absurd (not_zero f (ap (λ (a : ℕ × List 
 step_same (Ok None) (Err f) e = absurd (not_zero f (ap (λ (a : ℕ × List ℕ). a.0) e))
 step_same (Err d) (Ok (Some q)) e = absurd (not_zero d (sym (ap (λ (a : ℕ × List ℕ). a.0) e)))
 step_same (Err d) (Ok None) e = absurd (not_zero d (sym (ap (λ (a : ℕ × List ℕ). a.0) e)))
-step_same (Err d) (Err f) e = ap Err (number_unique d f (ap (λ (a : ℕ × List ℕ). a.0) e))
+step_same (Err d) (Err f) e = ap Err (refusal_unique d f (ap (λ (a : ℕ × List ℕ). a.0) e))
 
 begun_same : (label strict : Bool) (x y : Result Begun Refusal) → begun_says label strict x ≡ begun_says label strict y → x ≡ y
 begun_same label strict (Ok b) (Ok d) e = ap (λ (a : BegunAnswer). Ok (record { count = a.count; place = a.place })) e
 begun_same label strict (Ok b) (Err f) e = absurd (not_zero f (ap (λ (a : BegunAnswer). a.number) e))
 begun_same label strict (Err d) (Ok b) e = absurd (not_zero d (sym (ap (λ (a : BegunAnswer). a.number) e)))
-begun_same label strict (Err d) (Err f) e = ap Err (number_unique d f (ap (λ (a : BegunAnswer). a.number) e))
+begun_same label strict (Err d) (Err f) e = ap Err (refusal_unique d f (ap (λ (a : BegunAnswer). a.number) e))
 
 advance_same : (c : Cursor) (x y : Result (Option (Span × Cursor)) Refusal) → advance_says c x ≡ advance_says c y → x ≡ y
 advance_same c (Ok (Some p)) (Ok (Some q)) e = ap (λ (a : AdvanceAnswer). Ok (Some (record { from = a.from; end = a.end }, a.next))) e
@@ -50,7 +50,7 @@ advance_same c (Ok (Some p)) (Err f) e = absurd (not_zero f (ap (λ (a : Advance
 advance_same c (Ok None) (Err f) e = absurd (not_zero f (ap (λ (a : AdvanceAnswer). a.number) e))
 advance_same c (Err d) (Ok (Some q)) e = absurd (not_zero d (sym (ap (λ (a : AdvanceAnswer). a.number) e)))
 advance_same c (Err d) (Ok None) e = absurd (not_zero d (sym (ap (λ (a : AdvanceAnswer). a.number) e)))
-advance_same c (Err d) (Err f) e = ap Err (number_unique d f (ap (λ (a : AdvanceAnswer). a.number) e))
+advance_same c (Err d) (Err f) e = ap Err (refusal_unique d f (ap (λ (a : AdvanceAnswer). a.number) e))
 
 -- ---- so each call
 

@@ -3,7 +3,7 @@
 use mathlib.Core.Path.{◌≡◌, refl, sym, ap, ap₂, ◌∙◌}
 use Rattle.std.specs.Prelude.{Result, Ok, Err}
 use Rattle.refusals.specs.declared.Refusal.{Refusal}
-use Rattle.refusals.proofs.Laws.{not_zero, number_unique}
+use Rattle.refusals.proofs.Laws.{not_zero, refusal_unique}
 use mathlib.Core.Bool.{Bool, true, false}
 use mathlib.Core.List.{List, ◌++◌, append_assoc}
 use mathlib.Core.Option.{Option}
@@ -174,7 +174,7 @@ seal-by_unique s t name a p out x y e f = same x y (e ∙ sym f)
     same (Ok a, l) (Err d, m) h = absurd (not_zero d (ap (λ (z : SessionAnswer). z.0) h))
     same (Err d, l) (Ok b, m) h = absurd (not_zero d (sym (ap (λ (z : SessionAnswer). z.0) h)))
     same (Err d, l) (Err g, m) h =
-        ap₂ (λ (r : Refusal) (k : List ℕ). (Err r, k)) (number_unique d g (ap (λ (z : SessionAnswer). z.0) h)) (ap (λ (z : SessionAnswer). z.1) h)
+        ap₂ (λ (r : Refusal) (k : List ℕ). (Err r, k)) (refusal_unique d g (ap (λ (z : SessionAnswer). z.0) h)) (ap (λ (z : SessionAnswer). z.1) h)
 
 pub seal_next_unique : SealNextUnique
 seal_next_unique s t name a p out = unique (seal_next_answer s t name a p out)

@@ -13,7 +13,7 @@ use Rattle.octets.specs.Lent.{over}
 use Rattle.octets.proofs.BigEndian.{length-be}
 use Rattle.octets.proofs.Lent.{over_fits, over-whole}
 use Rattle.octets.proofs.Unique.{unique}
-use Rattle.refusals.proofs.Laws.{number_unique, not_zero}
+use Rattle.refusals.proofs.Laws.{refusal_unique, not_zero}
 use Rattle.refusals.specs.declared.Refusal.{Refusal}
 use Rattle.std.specs.Prelude.{Result, Ok, Err}
 use Rattle.session.specs.Iv.{prefix_size, field_size, session_iv_size, with_fields, started, is_spent, iv_of, next_session}
@@ -169,7 +169,7 @@ issued_once : (s : Session) (x y : Result Issued Refusal) → issued_says s x �
 issued_once s (Ok a) (Ok b) e = ap (λ (t : SessionAnswer). Ok (record { iv = t.1; session = t.2 })) e
 issued_once s (Ok a) (Err f) e = absurd (not_zero f (ap (λ (t : SessionAnswer). t.0) e))
 issued_once s (Err f) (Ok a) e = absurd (not_zero f (sym (ap (λ (t : SessionAnswer). t.0) e)))
-issued_once s (Err f) (Err g) e = ap Err (number_unique f g (ap (λ (t : SessionAnswer). t.0) e))
+issued_once s (Err f) (Err g) e = ap Err (refusal_unique f g (ap (λ (t : SessionAnswer). t.0) e))
 
 pub advance_unique : AdvanceUnique
 advance_unique s x y p q = issued_once s x y (p ∙ sym q)
