@@ -11,6 +11,7 @@ use refusals::Refusal;
 
 const BLOCK_ROUNDS: usize = 1000;
 
+// A flag and not a closure: what a closure computes of each key and block would take a longer contract than these two arms.
 fn one_round(key: &[u8], block: &mut [u8], there: bool) -> Result<(), Refusal>
     ensures { when there encrypt_block decrypt_block key.now block.old ≡ (outcome_number result, block.new) }
 {
@@ -86,7 +87,7 @@ impl Call {
         }
     }
 
-    // The call, on up to five strings and what is lent.
+    // The call, on up to five strings, as the specification's `Gives` takes them, and what is lent.
     pub(crate) fn run(
         self,
         a: &[u8],

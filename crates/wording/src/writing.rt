@@ -49,7 +49,7 @@ impl Writer<'_> {
         self.put_string(&[b])
     }
 
-    // The decimal digits of n, found from the last to the first.
+    // The decimal digits of n, found from the last to the first. A `while`: how many there are is known only when no more is left.
     pub fn put_decimal(&mut self, n: u64) -> Result<(), Refusal>
         ensures { Writes (writer_put (decimal n)) self.old self.new result }
     {
