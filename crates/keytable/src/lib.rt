@@ -39,7 +39,7 @@ pub fn check(t: &[u8]) -> Result<usize, Refusal>
     Ok(rows.count())
 }
 
-// Whether a key-encrypting key may have this type.
+// Whether a key-encrypting key may have this type. Types are numbers and no enum, since the public calls take any (docs/CONTRACTS.md).
 pub fn is_kek_type(kind: usize) -> bool
     ensures { result ≡ is_kek_type kind }
 {
@@ -68,7 +68,8 @@ pub fn number_at(at: usize) -> usize
     at.saturating_sub(HEAD_SIZE) / ROW_SIZE
 }
 
-// How long the row at a place is: a row's size, or none where it does not lie in the table.
+// How long the row at a place is: a row's size, or none where it does not lie in the table. A number and no Option, since `row_size_at` of specs/Table, on
+// which the clause of `row_at` stands, has one.
 #[tactic(auto, using(crate::proofs::Lookup::size_within, crate::proofs::Lookup::size_past))]
 fn row_size_at(t: &[u8], at: usize) -> usize
     ensures { result ≡ row_size_at t.now at }

@@ -18,7 +18,7 @@ use Rattle.octets.proofs.Xor.{zeros-xors, length-xors}
 use Rattle.octets.proofs.Blocks.{cut_nil, cut_short, cut_next, chain_turn}
 use Rattle.octets.proofs.Written.{part-zeros}
 use Rattle.octets.proofs.Tests.{rest_all}
-use Rattle.modes.specs.Counter.{counter_block, ctr, with_pad, plain_block, shown_text, written}
+use Rattle.modes.specs.Counter.{counter_block, ctr, with_pad, plain_block, shown_text, writes_into}
 use Rattle.modes.proofs.Stream.{length-ctr, ctr_last, ctr_next, Partly, partly_start, partly_block, partly_last}
 
 -- ---- the chain along the plaintext that a ciphertext gives
@@ -93,13 +93,13 @@ pad-put s pad out size short room e =
 
 -- ---- an output that is empty is not written
 
-pub written_some : (out : List ℕ) → (length out ≡ 0 → ⊥) → written out ≡ true
+pub written_some : (out : List ℕ) → (length out ≡ 0 → ⊥) → writes_into out ≡ true
 written_some out some = rw (ne_eqb (length out) 0 some)
 
-pub written_same : (out before : List ℕ) → length out ≡ length before → written out ≡ written before
+pub written_same : (out before : List ℕ) → length out ≡ length before → writes_into out ≡ writes_into before
 written_same out before e = ap (λ (n : ℕ). not (eqb n 0)) e
 
-pub written_fits : (out : List ℕ) (n : ℕ) → (0 < length out → n ≤ length out) → written out ≡ true → n ≤ length out
+pub written_fits : (out : List ℕ) (n : ℕ) → (0 < length out → n ≤ length out) → writes_into out ≡ true → n ≤ length out
 written_fits [] n fits e = absurd (false≢true e)
 written_fits (x ∷ out) n fits e = fits (omega arith)
 
@@ -108,7 +108,7 @@ over_none s [] [] e same = sym (drop_of_length-le [] {i = length s} (omega arith
 over_none s [] (y ∷ before) e same = absurd (omega arith)
 over_none s (x ∷ out) before e same = absurd (omega arith)
 
-pub over_some : (s out : List ℕ) → written out ≡ true → when (written out) (over s out) out ≡ over s out
+pub over_some : (s out : List ℕ) → writes_into out ≡ true → when (writes_into out) (over s out) out ≡ over s out
 over_some s out e = rw e
 
 -- ---- the pass while it runs: the blocks before place `at` are chained to y, and where the pass writes they are written; counter k comes next

@@ -32,8 +32,8 @@ abbrev pub shown_text : Bool → List ℕ → List ℕ
 shown_text opening s = when opening (replicate (length s) 0) s
 
 -- whether a pass writes: where its output is not empty
-abbrev pub written : List ℕ → Bool
-written out = not (eqb (length out) 0)
+abbrev pub writes_into : List ℕ → Bool
+writes_into out = not (eqb (length out) 0)
 
 -- document 01: 11 where the counter field would run over
 abbrev pub counter_fits : ℕ → ℕ → ℕ → Bool

@@ -7,7 +7,7 @@ ghost use Rattle.aes.specs.Cipher.{cipher};
 ghost use Rattle.aes_fast.specs.Halves.{halves_block};
 ghost use Rattle.aes_fast.specs.Start.{cipher_from};
 ghost use Rattle.modes.specs.Calls.{text_max};
-ghost use Rattle.modes.specs.Counter.{ctr, with_pad, plain_block, shown_text, written, front_of};
+ghost use Rattle.modes.specs.Counter.{ctr, with_pad, plain_block, shown_text, writes_into, front_of};
 
 use crate::cipher::Cipher;
 use crate::counter::{KeyStream, summed};
@@ -63,7 +63,7 @@ impl Direction for Sealing {
     }
 }
 
-// Of a ciphertext: its sum with the pads is chained, and the pads alone are written, which hold nothing of the text.
+// Of a ciphertext: its sum with the pads is chained, and the pads alone are writes_into, which hold nothing of the text.
 pub(crate) struct Opening;
 
 impl Direction for Opening {
@@ -89,7 +89,7 @@ impl Direction for Opening {
 // What is written of the block at place `at`, to the same place of the output, where that is not empty.
 fn put_shown<D: Direction>(text: &[u8], at: usize, pad: Halves, out: &mut [u8])
     requires { (at + 16 ≤ length text.now) × (0 < length out.old → at + 16 ≤ length out.old) }
-    ensures { out.new ≡ when (written out.old) (with_pad (shown_text D.opening text.now) at (halves_block pad) out.old) out.old }
+    ensures { out.new ≡ when (writes_into out.old) (with_pad (shown_text D.opening text.now) at (halves_block pad) out.old) out.old }
 {
     if out.len() == 0 {
         return;
@@ -112,7 +112,7 @@ fn pass_block<D: Direction>(
     requires { (at + 16 ≤ length text.now) × (0 < length out.old → at + 16 ≤ length out.old) }
     ensures one_value { halves_block result.one ≡ cipher aes.entry.keyed.keys.now (xors (halves_block y) (plain_block D.opening text.now at (halves_block pad))) }
     ensures other_value { halves_block result.other ≡ cipher_from aes.entry.keyed.tables.now aes.entry.keyed.keys.now s low }
-    ensures out_after { out.new ≡ when (written out.old) (with_pad (shown_text D.opening text.now) at (halves_block pad) out.old) out.old }
+    ensures out_after { out.new ≡ when (writes_into out.old) (with_pad (shown_text D.opening text.now) at (halves_block pad) out.old) out.old }
 {
     put_shown::<D>(text, at, pad, out);
     let plain = D::plain(halves_at(text, at), pad);

@@ -15,7 +15,8 @@ use modes::{iv_size, names_mode, tag_size};
 use octets::big_endian::{bytes16, bytes32, read8, read16, read32};
 use refusals::Refusal;
 
-// The fields of a header that decide where all stands: the mode, the length of the name and the count of the plaintext.
+// The fields of a header that decide where all stands: the mode's byte, as the calls of `modes` take it, the length of the name and the count of the
+// plaintext.
 #[derive(Clone, Copy, Debug, PartialEq, Eq)]
 pub struct Header {
     pub mode: u8,

@@ -8,7 +8,7 @@ use lib.ListN.{length}
 use Rattle.octets.specs.Blocks.{cut, chain}
 use Rattle.aes.specs.Cipher.{cipher}
 use Rattle.aes.proofs.Laws.{cipher-length}
-use Rattle.modes.specs.Counter.{counter_block, written, front_of}
+use Rattle.modes.specs.Counter.{counter_block, writes_into, front_of}
 use Rattle.modes.proofs.CcmPass.{plain_text, passed_start, passed_block, passed_chained, passed-written, written_some, written_same, written_fits, over_none, over_some}
 use Rattle.modes.proofs.passes.pass.Given.{Over}
 use Rattle.modes.proofs.passes.pass.Goals.{After-chain_last-z}
@@ -20,10 +20,12 @@ pad-is g c = c.from-last.ensures ∙ c.loop-at.invariant.1
 
 chained : (g : Over) (c : After-chain_last-z g)
     → (let a = c.args in
-    c.chain_last-z.result ≡ chain (cipher c.of-aes.result.keyed.keys.now) a.y (cut (plain_text g.D.Direction.opening (cipher c.of-aes.result.keyed.keys.now) 3 (front_of false a.pads.base) 1 a.text.now)))
+    c.chain_last-z.result ≡ chain (cipher c.of-aes.result.keyed.keys.now) a.y (cut (plain_text g.D.Direction.opening (cipher c.of-aes.result.keyed.keys.now) 3
+        (front_of false a.pads.base) 1 a.text.now)))
 chained g c =
     let a = c.args in
-    passed_chained (cipher c.of-aes.result.keyed.keys.now) (cipher-length c.of-aes.result.keyed.keys.now) 3 (front_of false a.pads.base) g.D.Direction.opening (written a.out.now) c.loop-at.invariant.2
+    passed_chained (cipher c.of-aes.result.keyed.keys.now) (cipher-length c.of-aes.result.keyed.keys.now) 3 (front_of false a.pads.base) g.D.Direction.opening
+        (writes_into a.out.now) c.loop-at.invariant.2
     (omega (arith, c.loop-at-test.false)) c.from-h.ensures (pad-is g c) c.from.ensures c.chain_last-z.ensures
 
 pub loop-at-init : goal.loop-at-init
@@ -32,7 +34,8 @@ loop-at-init g c =
     let a = c.args in (
       serves,
       c.encrypt_from-pad.ensures ∙ serves.pads 1 refl,
-      passed_start (cipher c.of-aes.result.keyed.keys.now) (cipher-length c.of-aes.result.keyed.keys.now) 3 (front_of false a.pads.base) g.D.Direction.opening (written a.out.now) _ a.text.now a.out.now,
+      passed_start (cipher c.of-aes.result.keyed.keys.now) (cipher-length c.of-aes.result.keyed.keys.now) 3 (front_of false a.pads.base) g.D.Direction.opening
+          (writes_into a.out.now) _ a.text.now a.out.now,
     )
 
 pub loop-at-preserved : goal.loop-at-preserved
@@ -43,7 +46,7 @@ loop-at-preserved g c =
     let both = c.pass_block-both.ensures in (
       serves,
       both.other_value ∙ serves.pads (l.k + 1) refl,
-      passed_block (cipher c.of-aes.result.keyed.keys.now) (cipher-length c.of-aes.result.keyed.keys.now) 3 (front_of false a.pads.base) g.D.Direction.opening (written a.out.now) l.invariant.2
+      passed_block (cipher c.of-aes.result.keyed.keys.now) (cipher-length c.of-aes.result.keyed.keys.now) 3 (front_of false a.pads.base) g.D.Direction.opening (writes_into a.out.now) l.invariant.2
           (written_fits a.out.now (length a.text.now) c.requires.1)
           (omega (arith, c.loop-at-test.true)) l.invariant.1 both.one_value (rw (written_same l.out a.out.now l.invariant.2.room) at both.out_after),
     )
@@ -60,8 +63,9 @@ returns-clause-value g c = rw c.of-aes.ensures.1 at (chained g (goal.at.returns-
 pub returns-clause-out_after : goal.returns-clause-out_after
 returns-clause-out_after g c =
     let a = c.args in
-    let some : written a.out.now ≡ true = written_some a.out.now (λ e. c.if-out-eq0.false (c.loop-at.invariant.2.room ∙ e)) in
+    let some : writes_into a.out.now ≡ true = written_some a.out.now (λ e. c.if-out-eq0.false (c.loop-at.invariant.2.room ∙ e)) in
     rw c.of-aes.ensures.1 at
-    (passed-written (cipher c.of-aes.result.keyed.keys.now) (cipher-length c.of-aes.result.keyed.keys.now) 3 (front_of false a.pads.base) g.D.Direction.opening (written a.out.now) some
-    c.loop-at.invariant.2 (written_fits a.out.now (length a.text.now) c.requires.1) (omega (arith, c.loop-at-test.false)) (pad-is g (goal.at.returns-clause-out_after g c).After-chain_last-z) c.put_last.ensures
+    (passed-written (cipher c.of-aes.result.keyed.keys.now) (cipher-length c.of-aes.result.keyed.keys.now) 3 (front_of false a.pads.base) g.D.Direction.opening (writes_into a.out.now) some
+    c.loop-at.invariant.2 (written_fits a.out.now (length a.text.now) c.requires.1) (omega (arith, c.loop-at-test.false))
+        (pad-is g (goal.at.returns-clause-out_after g c).After-chain_last-z) c.put_last.ensures
     ∙ over_some _ a.out.now some)
