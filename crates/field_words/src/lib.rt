@@ -62,7 +62,7 @@ fn field_number(name: &[u8]) -> Option<usize>
     place_in(&FIELD_NAMES, name)
 }
 
-// Before the first word: each field is 0.
+// Before the first word: no field is named.
 pub fn none_named() -> Fields
     ensures { fields_given result ≡ none_named }
 {
@@ -77,7 +77,8 @@ pub fn name_field(f: Fields, word: &[u8]) -> Option<Fields>
 {
     let i = field_number(name_in(word))?;
     let n = decimal::read(value_in(word))?;
-    if f.given[i].is_some() {
+    let taken = f.given[i].is_some();
+    if taken {
         return None;
     }
     let mut named = f;

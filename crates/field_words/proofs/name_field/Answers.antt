@@ -17,9 +17,9 @@ offset_bounds-f-i c = let h = listed c.args.f c.args.word.now c.name_in.ensures 
 pub bounds-f-i : goal.bounds-f-i
 bounds-f-i c = listed c.args.f c.args.word.now c.name_in.ensures c.in_ok-i.ensures c.value_in.ensures
 
-pub returns-then-is_some : goal.returns-then-is_some
-returns-then-is_some c =
-    named_before c.args.f c.args.word.now c.name_in.ensures c.in_ok-i.ensures c.value_in.ensures c.in_ok-n.ensures (sym c.is_some.ensures ∙ c.if-is_some.true)
+pub returns-then-taken : goal.returns-then-taken
+returns-then-taken c =
+    named_before c.args.f c.args.word.now c.name_in.ensures c.in_ok-i.ensures c.value_in.ensures c.in_ok-n.ensures (sym c.is_some-taken.ensures ∙ c.if-taken.true)
 
 pub offset_bounds-named-i : goal.offset_bounds-named-i
 offset_bounds-named-i c = let h = listed c.args.f c.args.word.now c.name_in.ensures c.in_ok-i.ensures c.value_in.ensures in omega arith
@@ -29,4 +29,4 @@ bounds-named-i c = listed c.args.f c.args.word.now c.name_in.ensures c.in_ok-i.e
 
 pub returns : goal.returns
 returns c =
-    named_now c.args.f c.args.word.now c.name_in.ensures c.in_ok-i.ensures c.value_in.ensures c.in_ok-n.ensures (sym c.is_some.ensures ∙ c.if-is_some.false)
+    named_now c.args.f c.args.word.now c.name_in.ensures c.in_ok-i.ensures c.value_in.ensures c.in_ok-n.ensures (sym c.is_some-taken.ensures ∙ c.if-taken.false)

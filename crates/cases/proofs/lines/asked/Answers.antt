@@ -30,6 +30,6 @@ returns c =
     let e = named (goal.at.returns c).In_ok-call in (
       rw e
           (right_all c.args.line.now (call_place c.in_ok-call.call) (place_small c.in_ok-call.call)
-              (omega (arith, c.spaces.ensures, c.strings.ensures.0, c.if-spaces-strings.false)) (sym c.no_empty_word.ensures ∙ c.if-not-no_empty_word.false)),
+          (omega (arith, c.spaces.ensures, c.strings.ensures.0, c.if-spaces-strings.false)) (sym c.no_empty_word.ensures ∙ c.if-not-no_empty_word.false)),
       e,
     )

@@ -30,7 +30,7 @@ returns-in_err-put_byte-2 c =
     let p = err_from_is_err_and c.from_residual-in_err-put_byte-2.result c.from_residual-in_err-put_byte-2.ensures.1 in
     rw (p.1, p.2, ← c.number.ensures)
     (adds_stop _ (adds_stop _ (adds_then (adds_then (adds_then (adds c.in_ok-put_string.ensures) (adds c.in_ok-put_byte.ensures))
-        (adds c.in_ok-put_decimal.ensures)) (adds c.in_err-put_byte-2.ensures))))
+    (adds c.in_ok-put_decimal.ensures)) (adds c.in_err-put_byte-2.ensures))))
 
 pub returns-in_err-put_shown : goal.returns-in_err-put_shown
 unfolding answer_text
@@ -38,11 +38,11 @@ returns-in_err-put_shown c =
     let p = err_from_is_err_and c.from_residual-in_err-put_shown.result c.from_residual-in_err-put_shown.ensures.1 in
     rw (p.1, p.2, ← c.number.ensures, ← c.as_bytes.ensures)
     (adds_stop _ (adds_then (adds_then (adds_then (adds_then (adds c.in_ok-put_string.ensures) (adds c.in_ok-put_byte.ensures))
-        (adds c.in_ok-put_decimal.ensures)) (adds c.in_ok-put_byte-2.ensures)) (adds c.in_err-put_shown.ensures)))
+    (adds c.in_ok-put_decimal.ensures)) (adds c.in_ok-put_byte-2.ensures)) (adds c.in_err-put_shown.ensures)))
 
 pub returns : goal.returns
 unfolding answer_text
 returns c =
     rw (← c.number.ensures, ← c.as_bytes.ensures)
     (adds_then (adds_then (adds_then (adds_then (adds_then (adds c.in_ok-put_string.ensures) (adds c.in_ok-put_byte.ensures))
-        (adds c.in_ok-put_decimal.ensures)) (adds c.in_ok-put_byte-2.ensures)) (adds c.in_ok-put_shown.ensures)) (adds c.put_byte-3.ensures))
+    (adds c.in_ok-put_decimal.ensures)) (adds c.in_ok-put_byte-2.ensures)) (adds c.in_ok-put_shown.ensures)) (adds c.put_byte-3.ensures))

@@ -25,7 +25,7 @@ chained : (g : Over) (c : After-chain_last-z g)
 chained g c =
     let a = c.args in
     passed_chained (cipher c.of-aes.result.keyed.keys.now) (cipher-length c.of-aes.result.keyed.keys.now) 3 (front_of false a.pads.base) g.D.Direction.opening
-        (writes_into a.out.now) c.loop-at.invariant.2
+    (writes_into a.out.now) c.loop-at.invariant.2
     (omega (arith, c.loop-at-test.false)) c.from-h.ensures (pad-is g c) c.from.ensures c.chain_last-z.ensures
 
 pub loop-at-init : goal.loop-at-init

@@ -34,7 +34,7 @@ gave c =
     let x = c.advance-issued.result in
     let iv = c.map_or-iv.result in
     let given : MatchResult x (λ i. iv ≡ i.iv) (λ e. iv ≡ replicate session_iv_size 0) = MatchResult-weaker _ {P' = λ i. iv ≡ i.iv} {Q' = λ e. iv ≡ replicate session_iv_size 0}
-        c.map_or-iv.ensures (λ i k. search Rattle.std.proofs.Common.rules) (λ e k. k) in
+    c.map_or-iv.ensures (λ i k. search Rattle.std.proofs.Common.rules) (λ e k. k) in
     let y = issued_says c.args.s x in
     c.advance-issued.ensures ∙ ap (λ (v : List ℕ). (y.0, v, y.2)) (sym (iv_given c.args.s x iv given))
 
