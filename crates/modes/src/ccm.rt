@@ -100,8 +100,7 @@ pub(crate) fn seal(aes: Cipher, m: Message, out: &mut [u8]) -> Result<(), Refusa
 }
 
 // Refused where the tag is wrong. The pass is lent an output of no bytes: a plaintext that is not authentic has nowhere to go.
-pub(crate) fn verify(aes: Cipher, m: Message, tag: &[u8]) -> Result<(), Refusal>
-    requires { length tag.now ≡ 16 }
+pub(crate) fn verify(aes: Cipher, m: Message, tag: &Block) -> Result<(), Refusal>
     ensures { outcome_number result ≡ tag_decides (ccm_tag_right (cipher aes.entry.keyed.keys.now) m.entry.iv.now (m.entry.a.now ++ m.entry.b.now) m.entry.text.now tag.now) }
 {
     let pads = KeyStream::<3> {
@@ -115,8 +114,8 @@ pub(crate) fn verify(aes: Cipher, m: Message, tag: &[u8]) -> Result<(), Refusal>
 }
 
 // The plaintext, where the tag is right.
-pub(crate) fn open(aes: Cipher, m: Message, tag: &[u8], out: &mut [u8]) -> Result<(), Refusal>
-    requires { (length tag.now ≡ 16) × (length m.text.now ≤ length out.old) }
+pub(crate) fn open(aes: Cipher, m: Message, tag: &Block, out: &mut [u8]) -> Result<(), Refusal>
+    requires { length m.text.now ≤ length out.old }
     ensures { ccm_opened (cipher aes.entry.keyed.keys.now) m.entry.iv.now (m.entry.a.now ++ m.entry.b.now) m.entry.text.now tag.now out.old ≡ (outcome_number result, out.new) }
 {
     let pads = KeyStream::<3> {

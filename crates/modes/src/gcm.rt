@@ -68,8 +68,7 @@ pub(crate) fn seal(aes: Cipher, m: Message, out: &mut [u8]) -> Result<(), Refusa
 }
 
 // Refused where the tag is wrong.
-pub(crate) fn verify(aes: Cipher, m: Message, tag: &[u8]) -> Result<(), Refusal>
-    requires { length tag.now ≡ 16 }
+pub(crate) fn verify(aes: Cipher, m: Message, tag: &Block) -> Result<(), Refusal>
     ensures { outcome_number result ≡ tag_decides (gcm_tag_right (cipher aes.entry.keyed.keys.now) m.entry.iv.now (m.entry.a.now ++ m.entry.b.now) m.entry.text.now tag.now) }
 {
     let pads = KeyStream::<4> {
@@ -81,8 +80,8 @@ pub(crate) fn verify(aes: Cipher, m: Message, tag: &[u8]) -> Result<(), Refusal>
 }
 
 // The plaintext, where the tag is right. The output is lent on only after the tag was found right.
-pub(crate) fn open(aes: Cipher, m: Message, tag: &[u8], out: &mut [u8]) -> Result<(), Refusal>
-    requires { (length tag.now ≡ 16) × (length m.text.now ≤ length out.old) }
+pub(crate) fn open(aes: Cipher, m: Message, tag: &Block, out: &mut [u8]) -> Result<(), Refusal>
+    requires { length m.text.now ≤ length out.old }
     ensures { gcm_opened (cipher aes.entry.keyed.keys.now) m.entry.iv.now (m.entry.a.now ++ m.entry.b.now) m.entry.text.now tag.now out.old ≡ (outcome_number result, out.new) }
 {
     verify(aes, m, tag)?;

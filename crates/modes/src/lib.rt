@@ -23,6 +23,7 @@ use arguments::{check_arguments, check_decryption, wrong_sizes};
 use cipher::{Cipher, round_keys};
 use message::Message;
 use mode::Mode;
+use octets::strings::Block;
 use refusals::Refusal;
 use sizes::{IV_SIZE, TAG_SIZE};
 
@@ -83,6 +84,7 @@ pub fn decrypt(
     ensures { decrypt_answer (mode_of u) key.now iv.now a.now b.now c.now tag.now out.old ≡ (outcome_number result, out.new) }
 {
     check_decryption(u, key, iv, a, b, c, tag, out.len())?;
+    let tag: &Block = tag.as_array().unwrap();
     let m = Message { iv, a, b, text: c };
     let tables = round_tables();
     let keys = round_keys(key);
@@ -102,6 +104,7 @@ pub fn verify(
     ensures { outcome_number result ≡ verify_number (mode_of u) key.now iv.now a.now b.now c.now tag.now }
 {
     check_decryption(u, key, iv, a, b, c, tag, c.len())?;
+    let tag: &Block = tag.as_array().unwrap();
     let m = Message { iv, a, b, text: c };
     let tables = round_tables();
     let keys = round_keys(key);

@@ -11,6 +11,7 @@ ghost use Rattle.modes.specs.Calls.{tag_decides, decrypt_opened};
 use crate::cipher::Cipher;
 use crate::message::Message;
 use crate::{ccm, gcm};
+use octets::strings::Block;
 use refusals::Refusal;
 
 #[derive(Clone, Copy)]
@@ -45,8 +46,7 @@ impl Mode {
         }
     }
 
-    pub(crate) fn verify(self, aes: Cipher, m: Message, tag: &[u8]) -> Result<(), Refusal>
-        requires { length tag.now ≡ 16 }
+    pub(crate) fn verify(self, aes: Cipher, m: Message, tag: &Block) -> Result<(), Refusal>
         ensures { (key : List ℕ) → aes.entry.keyed.keys.now ≡ schedule key
             → outcome_number result ≡ tag_decides ((named self).authentic key m.entry.iv.now (m.entry.a.now ++ m.entry.b.now) m.entry.text.now tag.now) }
     {
@@ -60,10 +60,10 @@ impl Mode {
         self,
         aes: Cipher,
         m: Message,
-        tag: &[u8],
+        tag: &Block,
         out: &mut [u8],
     ) -> Result<(), Refusal>
-        requires { (length tag.now ≡ 16) × (length m.text.now ≤ length out.old) }
+        requires { length m.text.now ≤ length out.old }
         ensures { (key : List ℕ) → aes.entry.keyed.keys.now ≡ schedule key
             → decrypt_opened (named self) key m.entry.iv.now (m.entry.a.now ++ m.entry.b.now) m.entry.text.now tag.now out.old ≡ (outcome_number result, out.new) }
     {

@@ -30,7 +30,7 @@ pub(crate) fn open_short(
     y: Block,
     s0: Block,
     c: &[u8],
-    tag: &[u8],
+    tag: &Block,
     out: &mut [u8],
 ) -> Result<(), Refusal>
     requires { (length c.now ≤ short_max) × (length c.now ≤ length out.old) × (s0 ≡ cipher pads.aes.keyed.keys.now (counter_block 3 (front_of false pads.base) 0)) }

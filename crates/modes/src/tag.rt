@@ -5,11 +5,11 @@ ghost use Rattle.octets.specs.Lent.{lowest};
 ghost use Rattle.refusals.specs.Numbers.{outcome_number};
 ghost use Rattle.modes.specs.Calls.{authentic_tests};
 
-use octets::strings::equal;
+use octets::strings::{Block, equal};
 use refusals::Refusal;
 
-// Refused where the tag is not the right one: of another length, or with another byte, whatever the earlier ones are.
-pub(crate) fn check_tag(tag: &[u8], right: &[u8]) -> Result<(), Refusal>
+// Refused where a byte of the tag is not the right one's, whatever the earlier ones are.
+pub(crate) fn check_tag(tag: &Block, right: &Block) -> Result<(), Refusal>
     ensures { outcome_number result ≡ lowest (authentic_tests (same tag.now right.now)) }
 {
     if equal(tag, right) {

@@ -2,6 +2,7 @@
 -- Assumes nothing.
 use mathlib.Core.Path.{sym, ◌∙◌}
 use lib.ListN.{length}
+use Rattle.std.proofs.Common.{◌≡◌, rules}
 use Rattle.std.proofs.lemmas.Result.{err_from_is_err_and}
 use Rattle.modes.specs.Modes.{mode_of}
 use Rattle.modes.specs.Calls.{Verifiable}
@@ -27,5 +28,6 @@ round_keys-keys-requires c = (passed (goal.at.round_keys-keys-requires c).In_ok-
 pub returns : goal.returns
 returns c =
     let a = c.args in
+    let tag : c.unwrap-tag.result.now ≡ a.tag.now = search rules in
     verify-done (mode_of a.u) a.key.now a.iv.now a.a.now a.b.now a.c.now a.tag.now a.c.now c.in_ok-check_decryption.ensures
-    (rw c.from.ensures at (c.verify.ensures a.key.now (c.of.ensures.1 ∙ c.round_keys-keys.ensures.value)))
+    (rw (c.from.ensures, tag) at (c.verify.ensures a.key.now (c.of.ensures.1 ∙ c.round_keys-keys.ensures.value)))

