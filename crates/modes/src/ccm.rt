@@ -83,6 +83,7 @@ fn chain_start(pads: KeyStream<3>, m: Message) -> Begun
     Begun { chain, pad }
 }
 
+// That the result has room is a fact of the message and the output together: a type for the pair would be made in lib.rt and taken apart here.
 pub(crate) fn seal(aes: Cipher, m: Message, out: &mut [u8]) -> Result<(), Refusal>
     requires { length m.text.now + 16 ≤ length out.old }
     ensures { answer 0 (ccm_sealed (cipher aes.entry.keyed.keys.now) m.entry.iv.now (m.entry.a.now ++ m.entry.b.now) m.entry.text.now) out.old ≡ (outcome_number result, out.new) }
@@ -113,7 +114,7 @@ pub(crate) fn verify(aes: Cipher, m: Message, tag: &Block) -> Result<(), Refusal
     check_tag(tag, &right)
 }
 
-// The plaintext, where the tag is right.
+// The plaintext, where the tag is right. It has room, which is a fact of two values as in `seal`.
 pub(crate) fn open(aes: Cipher, m: Message, tag: &Block, out: &mut [u8]) -> Result<(), Refusal>
     requires { length m.text.now ≤ length out.old }
     ensures { ccm_opened (cipher aes.entry.keyed.keys.now) m.entry.iv.now (m.entry.a.now ++ m.entry.b.now) m.entry.text.now tag.now out.old ≡ (outcome_number result, out.new) }

@@ -9,6 +9,7 @@ ghost use Rattle.modes.specs.Pads.{Serves};
 ghost use Rattle.modes.specs.Counter.{counter_block, ctr, with_pad, counter_fits, counter_answer};
 
 use crate::cipher::Cipher;
+use crate::tail::Tail;
 use aes_fast::halves::{Halves, add_halves, halves_at, put_halves};
 use aes_fast::start::Start;
 use octets::strings::{Block, first, put, xor};
@@ -22,16 +23,16 @@ pub(crate) struct KeyStream<'a, const W: usize> {
     ghost width: { (0 < W) × (W < 8) },
 }
 
-// A last part of a text, of 16 bytes or less, with its pad, and zeros after it.
-pub(crate) fn summed(text: &[u8], pad: Block) -> Block
-    requires { length text.now ≤ 16 }
-    ensures { result ≡ fill (xors text.now pad) }
+// A last part of a text with its pad, and zeros after it.
+pub(crate) fn summed(text: Tail, pad: Block) -> Block
+    ensures { result ≡ fill (xors text.entry.bytes.now pad) }
 {
-    let sum: Block = xor(first(text), pad);
-    first(&sum[..text.len()])
+    let sum: Block = xor(first(text.bytes), pad);
+    first(&sum[..text.bytes.len()])
 }
 
 // The block at place `at` of the text, with its pad, to the same place of the output.
+// That it lies in both is a fact of the place and a string together: a type for the pair would be made for each call and taken apart in it.
 fn add_at(text: &[u8], at: usize, pad: Halves, out: &mut [u8])
     requires { (at + 16 ≤ length text.now) × (at + 16 ≤ length out.old) }
     ensures { out.new ≡ with_pad text.now at (halves_block pad) out.old }
@@ -76,12 +77,12 @@ impl<const W: usize> KeyStream<'_, W> {
         s
     }
 
-    // A block or less, with counter k.
-    fn add_single(self, k: usize, text: &[u8], out: &mut [u8])
-        requires { (length text.now ≤ 16) × (length out.old ≡ length text.now) }
-        ensures { out.new ≡ ctr (cipher self.entry.aes.keyed.keys.now) W (take (16 - W) self.entry.base) k text.now }
+    // A block or less, with counter k. That the output is as long is a fact of the two together: a type for the pair would be made for each call.
+    fn add_single(self, k: usize, text: Tail, out: &mut [u8])
+        requires { length out.old ≡ length text.bytes.now }
+        ensures { out.new ≡ ctr (cipher self.entry.aes.keyed.keys.now) W (take (16 - W) self.entry.base) k text.entry.bytes.now }
     {
-        if text.len() == 0 {
+        if text.bytes.len() == 0 {
             return;
         }
         let sum = summed(text, self.aes.encrypt(self.block(k)));
@@ -95,8 +96,14 @@ impl<const W: usize> KeyStream<'_, W> {
     {
         let n = text.len();
         let middle = n.min(16);
-        self.add_single(i, &text[..middle], &mut out[..middle]);
-        self.add_single(i + 1, &text[middle..n], &mut out[middle..n]);
+        let front = Tail {
+            bytes: &text[..middle],
+        };
+        let rest = Tail {
+            bytes: &text[middle..n],
+        };
+        self.add_single(i, front, &mut out[..middle]);
+        self.add_single(i + 1, rest, &mut out[middle..n]);
     }
 
     // Two blocks a call, and then what is left, from an even counter i on: a pair's counters differ in the last byte alone.
@@ -144,7 +151,10 @@ impl<const W: usize> KeyStream<'_, W> {
             return Err(Refusal::CounterRunsOver);
         }
         let head = n.min(16 * (i % 2));
-        self.add_single(i, &text[..head], &mut out[..head]);
+        let front = Tail {
+            bytes: &text[..head],
+        };
+        self.add_single(i, front, &mut out[..head]);
         self.add_pairs(i + i % 2, &text[head..n], &mut out[head..n]);
         Ok(())
     }

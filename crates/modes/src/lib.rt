@@ -12,6 +12,7 @@ mod passes;
 mod short;
 mod sizes;
 mod tag;
+mod tail;
 
 ghost use Rattle.std.specs.Prelude.{◌≡◌};
 ghost use Rattle.refusals.specs.Numbers.{outcome_number};

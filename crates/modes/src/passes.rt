@@ -11,6 +11,7 @@ ghost use Rattle.modes.specs.Counter.{ctr, with_pad, plain_block, shown_text, wr
 
 use crate::cipher::Cipher;
 use crate::counter::{KeyStream, summed};
+use crate::tail::Tail;
 use aes_fast::halves::{Both, Halves, add_halves, halves_at, put_halves};
 use aes_fast::start::Start;
 use octets::strings::{Block, first, put, xor};
@@ -29,14 +30,13 @@ pub(crate) trait Direction {
         ensures { halves_block result ≡ when opening (halves_block pad) (xors (halves_block text) (halves_block pad)) };
 
     // The plaintext's last part, and zeros after it.
-    fn last(text: &[u8], pad: Block) -> Block
-        requires { length text.now ≤ 16 }
-        ensures { result ≡ fill (when opening (xors text.now pad) text.now) };
+    fn last(text: Tail, pad: Block) -> Block
+        ensures { result ≡ fill (when opening (xors text.entry.bytes.now pad) text.entry.bytes.now) };
 
     // And what is written of it.
-    fn put_last(text: &[u8], pad: Block, out: &mut [u8])
-        requires { (length text.now ≤ 16) × (length out.old ≡ length text.now) }
-        ensures { out.new ≡ xors (shown_text opening text.now) pad };
+    fn put_last(text: Tail, pad: Block, out: &mut [u8])
+        requires { length out.old ≡ length text.bytes.now }
+        ensures { out.new ≡ xors (shown_text opening text.entry.bytes.now) pad };
 }
 
 // Of a plaintext, which is chained itself; its sum with the pads is written.
@@ -53,11 +53,11 @@ impl Direction for Sealing {
         add_halves(text, pad)
     }
 
-    fn last(text: &[u8], _pad: Block) -> Block {
-        first(text)
+    fn last(text: Tail, _pad: Block) -> Block {
+        first(text.bytes)
     }
 
-    fn put_last(text: &[u8], pad: Block, out: &mut [u8]) {
+    fn put_last(text: Tail, pad: Block, out: &mut [u8]) {
         let sum = summed(text, pad);
         put(out, &sum);
     }
@@ -77,11 +77,11 @@ impl Direction for Opening {
         pad
     }
 
-    fn last(text: &[u8], pad: Block) -> Block {
+    fn last(text: Tail, pad: Block) -> Block {
         summed(text, pad)
     }
 
-    fn put_last(_text: &[u8], pad: Block, out: &mut [u8]) {
+    fn put_last(_text: Tail, pad: Block, out: &mut [u8]) {
         put(out, &pad);
     }
 }
@@ -120,11 +120,10 @@ fn pass_block<D: Direction>(
 }
 
 // The chain along a last part of the text.
-fn chain_last<D: Direction>(aes: Cipher, pad: Block, y: Block, text: &[u8]) -> Block
-    requires { length text.now ≤ 16 }
-    ensures { result ≡ chain (cipher aes.entry.keyed.keys.now) y (cut (when D.opening (xors text.now pad) text.now)) }
+fn chain_last<D: Direction>(aes: Cipher, pad: Block, y: Block, text: Tail) -> Block
+    ensures { result ≡ chain (cipher aes.entry.keyed.keys.now) y (cut (when D.opening (xors text.entry.bytes.now pad) text.entry.bytes.now)) }
 {
-    if text.len() == 0 {
+    if text.bytes.len() == 0 {
         return y;
     }
     aes.encrypt(xor(y, D::last(text, pad)))
@@ -162,10 +161,13 @@ pub(crate) fn pass<D: Direction>(pads: KeyStream<3>, y: Block, text: &[u8], out:
         k += 1;
     }
     let last = Block::from(pad);
-    let z = chain_last::<D>(aes, last, Block::from(h), &text[at..n]);
+    let tail = Tail {
+        bytes: &text[at..n],
+    };
+    let z = chain_last::<D>(aes, last, Block::from(h), tail);
     if out.len() == 0 {
         return z;
     }
-    D::put_last(&text[at..n], last, &mut out[at..n]);
+    D::put_last(tail, last, &mut out[at..n]);
     z
 }

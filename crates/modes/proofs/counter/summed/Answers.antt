@@ -20,9 +20,9 @@ front_sum (x ∷ s) z (y ∷ pad) h = ap (λ (l : List ℕ). bit_xor x y ∷ l) 
 pub returns : goal.returns
 returns c =
     let a = c.args in
-    let n = length a.text.now in
+    let n = length a.text.bytes.now in
     c.first-2.ensures
-    ∙ over_filled (take n c.xor-sum.result) (omega (arith, length-take n c.xor-sum.result, c.requires))
+    ∙ over_filled (take n c.xor-sum.result) (omega (arith, length-take n c.xor-sum.result, a.text.short))
     ∙ ap fill
-    (ap (take n) (c.xor-sum.ensures ∙ ap (λ (l : List ℕ). xors l a.pad) (c.first.ensures ∙ over_fits a.text.now (replicate 16 0) c.requires))
-    ∙ front_sum a.text.now _ a.pad (omega (arith, c.requires)))
+    (ap (take n) (c.xor-sum.ensures ∙ ap (λ (l : List ℕ). xors l a.pad) (c.first.ensures ∙ over_fits a.text.bytes.now (replicate 16 0) a.text.short))
+    ∙ front_sum a.text.bytes.now _ a.pad (omega (arith, a.text.short)))

@@ -14,13 +14,13 @@ use Rattle.modes.proofs.counter.KeyStream.add_single.Goals as goal
 pub returns-then-text-eq0 : goal.returns-then-text-eq0
 returns-then-text-eq0 g c =
     let a = c.args in
-    none_written (cipher a.self.aes.keyed.keys.now) g.row.W (take (16 - g.row.W) a.self.base) a.k a.text.now a.out.now c.if-text-eq0.true c.requires.1
+    none_written (cipher a.self.aes.keyed.keys.now) g.row.W (take (16 - g.row.W) a.self.base) a.k a.text.bytes.now a.out.now c.if-text-eq0.true c.requires
 
 pub returns : goal.returns
 returns g c =
     let a = c.args in
     let F = cipher a.self.aes.keyed.keys.now in
     let pad = c.encrypt in
-    summed-put a.text.now pad.result (omega arith) c.requires.0 a.out.now c.requires.1 c.summed-sum.ensures c.put.ensures
-    ∙ ap (xors a.text.now) (pad.ensures ∙ ap F c.block.ensures)
-    ∙ sym (ctr_last F (cipher-length a.self.aes.keyed.keys.now) g.row.W (take (16 - g.row.W) a.self.base) a.k a.text.now c.requires.0)
+    summed-put a.text.bytes.now pad.result (omega arith) a.text.short a.out.now c.requires c.summed-sum.ensures c.put.ensures
+    ∙ ap (xors a.text.bytes.now) (pad.ensures ∙ ap F c.block.ensures)
+    ∙ sym (ctr_last F (cipher-length a.self.aes.keyed.keys.now) g.row.W (take (16 - g.row.W) a.self.base) a.k a.text.bytes.now a.text.short)

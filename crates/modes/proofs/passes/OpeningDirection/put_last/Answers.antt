@@ -7,4 +7,4 @@ use Rattle.modes.proofs.passes.OpeningDirection.put_last.Goals as goal
 pub returns : goal.returns
 returns c =
     let a = c.args in
-    pad-put a._text.now a.pad a.out.now (omega arith) c.requires.0 c.requires.1 c.put.ensures
+    pad-put a._text.bytes.now a.pad a.out.now (omega arith) a._text.short c.requires c.put.ensures

@@ -5,4 +5,4 @@ use Rattle.octets.proofs.Written.{over_filled}
 use Rattle.modes.proofs.passes.SealingDirection.last.Goals as goal
 
 pub returns : goal.returns
-returns c = c.first.ensures ∙ over_filled c.args.text.now c.requires
+returns c = c.first.ensures ∙ over_filled c.args.text.bytes.now c.args.text.short

@@ -7,4 +7,4 @@ use Rattle.modes.proofs.passes.SealingDirection.put_last.Goals as goal
 pub returns : goal.returns
 returns c =
     let a = c.args in
-    summed-put a.text.now a.pad (omega arith) c.requires.0 a.out.now c.requires.1 c.summed-sum.ensures c.put.ensures
+    summed-put a.text.bytes.now a.pad (omega arith) a.text.short a.out.now c.requires c.summed-sum.ensures c.put.ensures
