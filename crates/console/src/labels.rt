@@ -1,4 +1,4 @@
-// label LABEL
+// label LABEL. The two commands on descriptors differ in the room and in what is read: a shared function would take both.
 use crate::rooms::{LONG_ROOM, room};
 use crate::saying::{Said, granted, write_out};
 use crate::taking::take_file;

@@ -63,7 +63,7 @@ impl Direction for Sealing {
     }
 }
 
-// Of a ciphertext: its sum with the pads is chained, and the pads alone are writes_into, which hold nothing of the text.
+// Of a ciphertext: its sum with the pads is chained, and the pads alone are written, which hold nothing of the text.
 pub(crate) struct Opening;
 
 impl Direction for Opening {

@@ -47,7 +47,7 @@ fn ready_to_open<'a>(
     Ok(Ready { at, record })
 }
 
-// Opens: after Ok the first n bytes of the output are the plaintext, and n is stored.
+// Opens: after Ok the first n bytes of the output are the plaintext, and n is stored where C lends a count, which a refusal leaves as it was.
 pub fn open(
     table: &[u8],
     r: &[u8],

@@ -30,6 +30,7 @@ impl Contents<'_> {
     {
         keytable::check(table)?;
         let found = keytable::find(table, DATA_TYPE, self.name);
+        // Without a row the lengths are CCM's, as those of a byte that names no mode are.
         let u = found.map_or(0, |at| use_at(table, at));
         if self.name.is_empty() | (self.iv.len() != iv_size(u)) {
             return Err(Refusal::Layout);

@@ -1,4 +1,4 @@
-// Key pages: read, where their parts are, a key loaded, and written.
+// Key pages: read, where their parts are, a key loaded, and written. Each call of the header has a function of its own, also where two are alike.
 ghost use Rattle.std.specs.Prelude.{◌≡◌};
 ghost use Rattle.keypage.specs.Read.{page_read_answer};
 ghost use Rattle.keypage.specs.Places.{places_answer};

@@ -1,4 +1,4 @@
-// AES Key Wrap.
+// AES Key Wrap, each way a call of the header's.
 ghost use Rattle.std.specs.Prelude.{◌≡◌};
 ghost use Rattle.keywrap.specs.Calls.{wrap_answer, unwrap_answer};
 
