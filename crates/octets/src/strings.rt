@@ -35,12 +35,17 @@ pub fn xor<const N: usize>(a: [u8; N], b: [u8; N]) -> [u8; N]
     sum
 }
 
-// Writes s over the front of out, as far as out reaches.
+// Writes s over the front of out, as far as out reaches. Byte by byte, since of a whole copy between strings that it cannot see to be apart the compiler
+// makes a call of memmove, which a library for C would then need from outside.
 pub fn put(out: &mut [u8], s: &[u8])
     ensures { out.new ≡ over s.now out.old }
 {
-    let n = s.len().min(out.len());
-    out[..n].copy_from_slice(&s[..n]);
+    for (i, x) in s.iter().enumerate() {
+        if i == out.len() {
+            return;
+        }
+        out[i] = *x;
+    }
 }
 
 // Writes one string and then another over the front of out, as far as out reaches.

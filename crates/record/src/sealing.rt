@@ -11,7 +11,7 @@ use crate::header::{Header, passes_maximum};
 use crate::sizes::CALLERS_MAX;
 use keytable::{DATA_TYPE, key_at, use_at};
 use modes::{encrypt, iv_size};
-use octets::strings::put_both;
+use octets::strings::{put, put_both};
 use refusals::Refusal;
 
 // What is sealed: the name of the row, the IV, the caller's associated data and the plaintext.
@@ -66,7 +66,7 @@ impl Contents<'_> {
         let (front, rest) = out.split_at_mut(header.places().iv);
         put_both(&header.bytes(), self.name, front);
         let (iv, rest) = rest.split_at_mut(self.iv.len());
-        iv.copy_from_slice(self.iv);
+        put(iv, self.iv);
         encrypt(u, key, self.iv, front, self.aad, self.plain, rest).unwrap();
     }
 

@@ -1,10 +1,11 @@
 -- `record::sealing::Contents::fill` meets its contract: the front, the IV, and what the mode makes after them.
 -- Assumes nothing.
-use mathlib.Core.Path.{◌≡◌, ap, ap₂, ◌∙◌}
+use mathlib.Core.Path.{◌≡◌, sym, ap, ap₂, ◌∙◌}
 use mathlib.Core.List.{List, ◌++◌}
 use Prim.Native.Nat.{ℕ}
 use lib.ListN.{length, take, drop}
 use Rattle.octets.specs.Lent.{over}
+use Rattle.octets.proofs.Lent.{over-whole}
 use Rattle.refusals.specs.Numbers.{outcome_number}
 use Rattle.refusals.proofs.Laws.{is_done}
 use Rattle.modes.specs.Calls.{encrypt_answer}
@@ -46,5 +47,5 @@ pub returns : goal.returns
 returns c =
     let a = c.args in
     let w = (goal.at.returns c).After-encrypt in
-    ap₂ (λ (f v : List ℕ). f ++ (v ++ c.encrypt.new.out)) (is_front w) c.copy_from_slice.ensures.after
+    ap₂ (λ (f v : List ℕ). f ++ (v ++ c.encrypt.new.out)) (is_front w) (c.put.ensures ∙ over-whole _ _ (sym c.split_at_mut-iv.ensures.front_len))
     ∙ (filled a.u a.key.now a.self.name.now a.self.iv.now a.self.aad.now a.self.plain.now a.out.now c.requires _ _ (ran w)).1
