@@ -1,5 +1,5 @@
 // One line: what it says. specs/Line.antt has the text.
-ghost use Rattle.std.specs.Prelude.{◌≡◌, ◌≤◌};
+ghost use Rattle.std.specs.Prelude.{◌≡◌, ◌≤◌, false};
 ghost use Rattle.wording.specs.Writer.{Adds};
 ghost use Rattle.cases.specs.Named.{entry};
 ghost use Rattle.cases.specs.Line.{answer_text, is_comment, string_at, strings_right, answer_of, case_text};
@@ -98,6 +98,18 @@ fn put_answer(writer: &mut Writer<'_>, name: &[u8], answer: &Answer) -> Result<(
     writer.put_byte(b'\n')
 }
 
+// The text of a line that is no comment. It is kept a function of its own: put into the loop over the lines, its rooms would be cleared for a comment too.
+#[inline(never)]
+fn put_answered(writer: &mut Writer<'_>, line: &[u8], number: usize) -> Result<(), Refusal>
+    requires { is_comment line.now ≡ false }
+    ensures { Adds (case_text line.now number) writer.old writer.new result }
+{
+    match answered(line) {
+        Some(answer) => put_answer(writer, word(line, 0), &answer),
+        None => writer.put_line(b"refused", number as u64),
+    }
+}
+
 // The text of a line, of that number from 1.
 pub(crate) fn put_case(writer: &mut Writer<'_>, line: &[u8], number: usize) -> Result<(), Refusal>
     ensures { Adds (case_text line.now number) writer.old writer.new result }
@@ -105,8 +117,5 @@ pub(crate) fn put_case(writer: &mut Writer<'_>, line: &[u8], number: usize) -> R
     if is_comment(line) {
         return Ok(());
     }
-    match answered(line) {
-        Some(answer) => put_answer(writer, word(line, 0), &answer),
-        None => writer.put_line(b"refused", number as u64),
-    }
+    put_answered(writer, line, number)
 }
