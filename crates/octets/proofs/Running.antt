@@ -11,12 +11,14 @@ use lib.Bits.{bit_xor, xor_zero_r}
 use lib.Dec.{eqb, lit<}
 use lib.ListN.{length, take, drop, replicate, length-append, length-take, length-drop, length-set, take-append-drop, replicate-append-replicate}
 use lib.Seq.{drop-drop, length-take-le}
+use Rattle.octets.specs.Bytes.{Bytes}
 use Rattle.octets.specs.Xor.{xors}
 use Rattle.octets.specs.Lent.{when}
 use Rattle.octets.specs.Blocks.{fill, cut, chain}
 use Rattle.octets.specs.Running.{add_at, add_from, after_byte, absorb, close}
 use Rattle.octets.proofs.Values.{cons_equal}
-use Rattle.octets.proofs.Xor.{xors-zeros}
+use Rattle.octets.proofs.Bytes.{bytes_head, bytes_tail, bytes-set}
+use Rattle.octets.proofs.Xor.{xor_byte, xors-zeros}
 use Rattle.octets.proofs.Blocks.{fill-whole, cut_nil, cut_short, cut_next}
 
 -- ---- a part added to the state from a place on
@@ -170,3 +172,13 @@ module _ (f : List ℕ → List ℕ) where
 
       places : (length a % 16 + length b) % 16 ≡ length (a ++ b) % 16
       places = omega (arith, length-append a b)
+
+  pub bytes-absorb : ((x : List ℕ) → Bytes (f x)) → (k : ℕ) {y s : List ℕ} → Bytes y → Bytes s → Bytes (absorb f k y s)
+  unfolding absorb
+  bytes-absorb bytes k {y} {s = []} hy hs = hy
+  bytes-absorb bytes k {y} {s = b ∷ s} hy hs =
+      bytes-absorb bytes ((k + 1) % 16) {y = after_byte f k (add_at k y b)} {s = s} (after (eqb k 15) (bytes-set k hy (xor_byte (hy.byte k) (bytes_head hs)))) (bytes_tail hs)
+    where
+      after : (t : Bool) {x : List ℕ} → Bytes x → Bytes (when t (f x) x)
+      after true {x} h = bytes x
+      after false h = h

@@ -4,14 +4,14 @@
 use mathlib.Core.Path.{◌≡◌, refl, sym, ap, ap₂, ◌∙◌}
 use mathlib.Core.Bool.{Bool, true, false}
 use mathlib.Core.List.{List, [], ◌∷◌, ◌++◌, flatten, append_assoc}
-use Prim.Native.Nat.{ℕ, zero, suc, ◌≤◌}
+use Prim.Native.Nat.{ℕ, zero, suc, ◌+◌, ◌≤◌}
 use native.Mathlib.Omega.{arith}
 use borrow.Author.Tests.{eqb-true, eqb-false, eq-eqb, ne_eqb}
-use lib.ListN.{length, take, drop, take-append-drop, length-drop}
-use lib.Seq.{take-append_seam, drop-append_seam}
+use lib.ListN.{length, take, drop, take-append-drop, length-drop, drop_of_length-le}
+use lib.Seq.{take-append_seam, drop-append_seam, drop-drop}
 use lib.Dec.{eqb}
 use Rattle.octets.specs.Lent.{when}
-use Rattle.octets.specs.Tests.{all}
+use Rattle.octets.specs.Tests.{all, part_of}
 use Rattle.octets.specs.Split.{behind, split_in, split_by}
 use Rattle.octets.proofs.Tests.{and_left, and_right}
 
@@ -50,6 +50,21 @@ module _ (size : List ℕ → ℕ) (within : (s : List ℕ) → size s ≤ lengt
     where
       one_turn : split_in size (suc (length s)) s ≡ behind (take (size s) s) (split_in size (length s) (drop (size s) s))
       one_turn = rw (ne_eqb _ _ f)
+
+  -- the same at a place of a string, where a part of n bytes stands, or none, or the string ends
+  module _ (s : List ℕ) (at : ℕ) where
+    pub place_turn : (n : ℕ) → n ≡ size (drop at s) → (n ≡ 0 → ⊥) → split_by size (drop at s) ≡ behind (part_of s at n) (split_by size (drop (at + n) s))
+    place_turn n e f =
+        split_turn (drop at s) (λ z. f (e ∙ z))
+        ∙ ap (λ (m : ℕ). behind (part_of s at m) (split_by size (drop m (drop at s)))) (sym e)
+        ∙ ap (λ (l : List ℕ). behind (part_of s at n) (split_by size l)) (drop-drop n at s)
+
+    pub place-stop : size (drop at s) ≡ 0 → split_by size (drop at s) ≡ ([], drop at s)
+    place-stop e = split-stop (drop at s) e
+
+    pub place_end : length s ≤ at → split_by size (drop at s) ≡ ([], [])
+    unfolding split_by
+    place_end h = rw (drop_of_length-le s h)
 
   -- ---- what is found
 

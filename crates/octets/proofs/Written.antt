@@ -1,13 +1,15 @@
--- Strings written in parts: a part of the output that was lent and came back; parts of zeros; and a sum written byte by byte.
+-- Strings written in parts: a part of the output that was lent and came back; what is made of each byte, written byte by byte; parts of zeros; and a sum
+-- written byte by byte.
 -- Assumes nothing.
 use mathlib.Core.Path.{◌≡◌, refl, sym, ap, ap₂, ◌∙◌}
-use mathlib.Core.List.{List, [], ◌∷◌, ◌++◌, append_assoc, append-nil}
+use mathlib.Core.List.{List, [], ◌∷◌, ◌++◌, append_assoc, append-nil, map, map-append}
 use Prim.Native.Nat.{ℕ, zero, suc, ◌+◌, ◌-◌, ◌≤◌, ◌<◌}
 use native.Mathlib.Nat.{sub-zero, zero-sub, suc-sub-suc, le_of_suc-le-suc, not-suc-le-zero}
+use native.Mathlib.Numerals.{add-one}
 use native.Mathlib.Omega.{arith}
 use lib.Bits.{bit_xor}
 use lib.ListN.{length, get_or, set, take, drop, replicate, length-replicate, length-append, length-take, length-drop, drop_of_length-le}
-use lib.Seq.{take_all, take_at, drop_at, drop-drop}
+use lib.Seq.{take_all, take_at, take-suc, take-suc-set, drop_at, drop-drop}
 use Rattle.octets.specs.Xor.{xors}
 use Rattle.octets.specs.Blocks.{fill}
 use Rattle.octets.specs.Lent.{over}
@@ -53,6 +55,15 @@ block-put out b a {ys} size fits e =
     (drop_of_length-le (drop a out) {i = length out - a} (omega (arith, length-drop a out)))
     ∙ append-nil (b ++ drop (length b) (drop a out))
     ∙ ap (λ (n : ℕ). b ++ drop n (drop a out)) size)
+
+-- ---- what f makes of each byte of b, written byte by byte: the next one
+
+pub map_turn : (f : ℕ → ℕ) (b r : List ℕ) (i : ℕ) → i < length b → i < length r → take i r ≡ map f (take i b)
+    → take (i + 1) (set r i (f (get_or b i 0))) ≡ map f (take (i + 1) b)
+map_turn f b r i hb hr done =
+    rw (add-one i)
+    (take-suc-set r i (f (get_or b i 0)) hr ∙ ap (λ (l : List ℕ). l ++ f (get_or b i 0) ∷ []) done
+    ∙ sym (ap (map f) (take-suc b i 0 hb) ∙ map-append f (take i b) (get_or b i 0 ∷ [])))
 
 -- ---- parts of zeros, and a string over them
 
