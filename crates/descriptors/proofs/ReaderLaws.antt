@@ -1,7 +1,7 @@
 -- The laws of specs/ReaderLaws.antt: what is proved of the cursor, over the reader's own calls.
 -- Assumes nothing.
 use mathlib.Core.Path.{◌≡◌, refl, sym, ap, ap₂, ◌∙◌}
-use mathlib.Core.Bool.{Bool, true, false}
+use mathlib.Core.Bool.{Bool, true, false, false≢true}
 use mathlib.Core.List.{List, []}
 use Prim.Native.Nat.{ℕ, zero, suc, ◌-◌}
 use native.Mathlib.Omega.{arith}
@@ -10,13 +10,13 @@ use denote.Ref.{Bor}
 use Rattle.octets.specs.Tests.{part_of}
 use Rattle.octets.specs.Places.{placed, part_in}
 use Rattle.octets.proofs.Unique.{unique}
-use Rattle.std.specs.Prelude.{Result, Ok, Err}
+use Rattle.std.specs.Prelude.{Option, Some, None, Result, Ok, Err}
 use Rattle.refusals.specs.declared.Refusal.{Refusal}
 use Rattle.refusals.proofs.Laws.{refusal_unique, not_zero}
 use Rattle.octets.specs.Split.{Split}
 use Rattle.descriptors.specs.Tested.{list_ok, unreserved, count_of}
 use Rattle.descriptors.specs.Steps.{cursor_at_start, BegunAnswer, AdvanceAnswer, advance_of, part_shown, cursor_after}
-use Rattle.descriptors.specs.Readers.{standing, OpenedAnswer, opened_says, ShownAnswer, shown_of, next_of}
+use Rattle.descriptors.specs.Readers.{standing, OpenedAnswer, opened_says, ShownAnswer, shown_says, seen, shown_of, next_of}
 use Rattle.descriptors.specs.ReaderLaws.{ReaderRun, opening_of, step_of, ReaderCounts, ReaderShows, ReaderThenNothing, ReaderStrictExactly, ReaderStrictSame}
 use Rattle.descriptors.specs.ReaderLaws.{ReaderRefusedStays, ReaderOpenUnique, ReaderNextUnique, PartAtUnique}
 use Rattle.descriptors.specs.declared.cursor.Cursor.{Cursor}
@@ -122,8 +122,21 @@ opened_same l label strict (Err d) (Err f) e = ap Err (refusal_unique d f (ap (�
 pub reader_open_unique : ReaderOpenUnique
 reader_open_unique l label strict x y p q = opened_same l label strict x y (p ∙ sym q)
 
+shown_same : (d : Reader) (x y : Result (Option (Bor (List ℕ))) Refusal) → shown_says d x ≡ shown_says d y → seen x ≡ seen y
+shown_same d (Ok (Some p)) (Ok (Some q)) e = ap (λ (a : ShownAnswer). Ok (Some a.part)) e
+shown_same d (Ok (Some p)) (Ok None) e = absurd (false≢true (sym (ap (λ (a : ShownAnswer). a.shows) e)))
+shown_same d (Ok None) (Ok (Some q)) e = absurd (false≢true (ap (λ (a : ShownAnswer). a.shows) e))
+shown_same d (Ok None) (Ok None) e = refl
+shown_same d (Ok (Some p)) (Err f) e = absurd (not_zero f (ap (λ (a : ShownAnswer). a.number) e))
+shown_same d (Ok None) (Err f) e = absurd (not_zero f (ap (λ (a : ShownAnswer). a.number) e))
+shown_same d (Err g) (Ok (Some q)) e = absurd (not_zero g (sym (ap (λ (a : ShownAnswer). a.number) e)))
+shown_same d (Err g) (Ok None) e = absurd (not_zero g (sym (ap (λ (a : ShownAnswer). a.number) e)))
+shown_same d (Err g) (Err f) e = ap Err (refusal_unique g f (ap (λ (a : ShownAnswer). a.number) e))
+
 pub reader_next_unique : ReaderNextUnique
-reader_next_unique d = unique (next_of d)
+reader_next_unique d x y r s p q =
+    let both : ◌≡◌ {A = Next} (shown_says d x, r) (shown_says d y, s) = sym p ∙ q in
+    (shown_same d x y (ap (λ (n : Next). n.0) both), ap (λ (n : Next). n.1) both)
 
 pub part_at_unique : PartAtUnique
 part_at_unique s from end = unique (part_in s from (end - from))

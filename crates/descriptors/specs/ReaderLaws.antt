@@ -9,7 +9,7 @@ use Rattle.refusals.specs.declared.Refusal.{Refusal}
 use Rattle.descriptors.specs.Parse.{split, parse}
 use Rattle.descriptors.specs.Tested.{unreserved}
 use Rattle.descriptors.specs.Steps.{cursor_at_start, advance_of, cursor_after}
-use Rattle.descriptors.specs.Readers.{OpenedAnswer, opened_of, opened_says, ShownAnswer, shown_says, shown_of, next_of}
+use Rattle.descriptors.specs.Readers.{OpenedAnswer, opened_of, opened_says, ShownAnswer, shown_says, seen, shown_of, next_of}
 use Rattle.descriptors.specs.StrictLaws.{NoneReserved}
 use Rattle.descriptors.specs.declared.reader.Reader.{Reader}
 use Rattle.descriptors.specs.declared.reader.Opened.{Opened}
@@ -73,7 +73,9 @@ abbrev pub ReaderOpenUnique : Type 0
 ReaderOpenUnique = (l : Bor (List ℕ)) (label strict : Bool) → UniqueBy (opened_says l label strict) (opened_of l label strict)
 
 abbrev pub ReaderNextUnique : Type 0
-ReaderNextUnique = (d : Reader) → Unique (next_of d)
+ReaderNextUnique =
+    (d : Reader) (x y : Result (Option (Bor (List ℕ))) Refusal) (r s : Reader) → next_of d ≡ (shown_says d x, r) → next_of d ≡ (shown_says d y, s)
+    → (seen x ≡ seen y) × (r ≡ s)
 
 abbrev pub PartAtUnique : Type 0
 PartAtUnique = (s : Placed) (from end : ℕ) → Unique (part_in s from (end - from))

@@ -46,6 +46,12 @@ shown_says d (Ok (Some p)) = record { number = 0; shows = true; part = placed p 
 shown_says d (Ok None) = record { number = 0; shows = false; part = part_in (placed d.list) d.place.at 0 }
 shown_says d (Err e) = record { number = number_of e; shows = false; part = part_in (placed d.list) d.place.at 0 }
 
+-- what a step's answer shows of itself: of the part handed back, its bytes and where they lie; a refusal and that nothing is left, as they are
+abbrev pub seen : Result (Option (Bor (List ℕ))) Refusal → Result (Option Placed) Refusal
+seen (Ok (Some p)) = Ok (Some (placed p))
+seen (Ok None) = Ok None
+seen (Err e) = Err e
+
 -- "as the part of the list that it is": of the very list that was lent, from one place to the other
 abbrev pub shown_of : Reader → ShownAnswer
 shown_of d = let a = advance_of d.list.now d.place in record { number = a.number; shows = a.shows; part = part_in (placed d.list) a.from (a.end - a.from) }
