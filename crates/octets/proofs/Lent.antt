@@ -1,6 +1,6 @@
 -- A string written over the front of another, and what the answer of a call tells.
 -- Assumes nothing.
-use mathlib.Core.Path.{◌≡◌, refl, sym, ap, ap₂, ◌∙◌}
+use mathlib.Core.Path.{◌≡◌, refl, sym, ap, ap₂, subst, ◌∙◌}
 use mathlib.Core.Bool.{Bool, true, false, ◌||◌}
 use mathlib.Core.List.{List, [], ◌∷◌, ◌++◌, append-nil}
 use Prim.Native.Nat.{ℕ, zero, suc, ◌+◌, ◌-◌, ◌≤◌, ◌<◌, min}
@@ -10,12 +10,13 @@ use native.Mathlib.Omega.{arith}
 use lib.Dec.{eqb, ltb}
 use lib.ListN.{length, get_or, set, take, drop, replicate, length-replicate, length-append, length-take, length-drop, drop_of_length-le}
 use lib.Seq.{get_or-drop, take_all, take-nil, take-suc, drop-cons, set_at, append_snoc, length-take-le, take_at, drop_at}
+use borrow.Rule.Slice.PartMut.{put_mid}
 use borrow.Author.Tests.{eqb-true, eq-eqb, ltb-true, not-false}
 use Rattle.octets.specs.Tests.{part_of}
 use Rattle.octets.specs.Values.{values, bytes_at}
 use Rattle.octets.specs.Lent.{Tests, when, is_not, lowest, over, answer}
 use Rattle.octets.specs.Lowest.{rises_above, rises}
-use Rattle.octets.proofs.Values.{cons_equal, values-later, values-from, values_same}
+use Rattle.octets.proofs.Values.{cons_equal, values-later, values-from, values_same, values_list}
 use Rattle.octets.proofs.Tests.{and_left, and_right, or_left, or_right, rest_all}
 
 -- ---- lengths
@@ -94,12 +95,11 @@ front_values (suc n) [] = over_empty (replicate (suc n) 0) ∙ none-values 0 (su
 front_values (suc n) (x ∷ s) = cons_equal refl (front_values n s ∙ sym (values-later (λ k. get_or (x ∷ s) k 0) 0 n))
 
 -- as they are read from place i on
-pub over_part : (n : ℕ) (s : List ℕ) (i : ℕ) → over (part_of s i n) (replicate n 0) ≡ bytes_at n s i
+pub over_part : (n : ℕ) (s : List ℕ) (i : ℕ) → bytes_at n s i ≡ over (part_of s i n) (replicate n 0)
 over_part n s i =
-    front_values n (drop i s)
-    ∙ values_same _ _ 0 n (λ k lo hi. get_or-drop i s k 0)
-    ∙ sym (values-from (λ k. get_or s k 0) i 0 n)
-    ∙ ap (λ (k : ℕ). bytes_at n s k) (add-zero i)
+    sym (ap (λ (k : ℕ). bytes_at n s k) (add-zero i))
+    ∙ values-from (λ k. get_or s k 0) i 0 n
+    ∙ sym (front_values n (drop i s) ∙ values_same _ _ 0 n (λ k lo hi. get_or-drop i s k 0))
 
 -- ---- answers
 
@@ -169,3 +169,12 @@ module _ (s t d d₁ ys : List ℕ) (n : ℕ) (size : length s ≡ n) (fits : n 
 
       written : ys ≡ over t (drop n d)
       written = second ∙ ap (over t) (rest_all d₁ n ∙ rest)
+
+-- ---- eight bytes copied into sixteen zeros, and eight after them
+
+module _ (s t : List ℕ) (size : length s ≡ 8) where
+  pub over_eights : (x y : List ℕ) → x ≡ s → y ≡ t → put_mid 8 8 (x ++ replicate 8 0) y ≡ s ++ t
+  over_eights x y first second =
+      ap₂ (λ (a b : List ℕ). put_mid 8 8 (a ++ replicate 8 0) b) first second
+      ∙ subst (λ (l : List ℕ). put_mid 8 8 (l ++ replicate 8 0) t ≡ l ++ t) (values_list s 0 8 size)
+      (ap (λ (l : List ℕ). values (λ k. get_or s k 0) 0 8 ++ l) (append-nil t))

@@ -13,7 +13,7 @@ pub fn read8(s: &[u8], i: usize) -> usize
 }
 
 // The N bytes from place i.
-#[tactic(auto, using(crate::proofs::Lent::over_part))]
+#[tactic(auto, using(crate::proofs::Lent::over_part, std::proofs::lemmas::Grind::common_steps))]
 fn bytes_at<const N: usize>(s: &[u8], i: usize) -> [u8; N]
     ensures { result ≡ bytes_at N s.now i }
 {

@@ -88,6 +88,7 @@ pub fn first<const N: usize>(s: &[u8]) -> [u8; N]
 }
 
 // Eight bytes and then eight.
+#[tactic(auto, using(crate::proofs::Lent::over_eights, std::proofs::lemmas::Grind::common_steps))]
 pub fn two_eights(a: [u8; 8], b: [u8; 8]) -> Block
     ensures { result ≡ a ++ b }
 {
