@@ -1,12 +1,12 @@
 -- The laws of specs/Laws.antt.
 -- Assumes nothing.
 use mathlib.Core.Path.{◌≡◌, refl, sym, ap, ap₂, ◌∙◌}
-use mathlib.Core.Bool.{Bool, true, false, false≢true}
+use mathlib.Core.Bool.{true, false, false≢true}
 use mathlib.Core.List.{List, [], ◌∷◌, ◌++◌, map, append-nil}
 use Prim.Native.Nat.{ℕ, zero, suc, ◌+◌, ◌≤◌, min}
 use native.Mathlib.Omega.{arith}
-use lib.ListN.{length, get_or, replicate, drop, drop_of_length-le, length-map}
-use Rattle.std.specs.Prelude.{Option, Some, None, is_some}
+use lib.ListN.{length, get_or, replicate, drop_of_length-le}
+use Rattle.std.specs.Prelude.{Some, None}
 use lib.Seq.{sets, sets-eq, get_or-set_other}
 use Rattle.octets.proofs.Unique.{unique}
 use Rattle.wording.specs.Decimal.{decimal, value_of}
@@ -15,8 +15,11 @@ use Rattle.wording.proofs.Laws.{decimal_reads}
 use Rattle.wording.proofs.NumberLaws.{decimal_is}
 use Rattle.field_words.specs.Words.{field_name_count}
 use Rattle.field_words.specs.Fields.{Fields, none_named, with_field, name_field, name_fields, fields_in}
-use Rattle.field_words.specs.Given.{value_given}
-use Rattle.field_words.specs.Laws.{NamesOne, FieldBack, field_words, FieldsBack, GoodWords, GoodExactly, FieldOfWord, FieldUnnamed, NoneUnique, NameUnique, GivenUnique}
+use Rattle.field_words.specs.Given.{value_given, fields_given, unnamed_in}
+use Rattle.field_words.specs.declared.Field.{Field}
+use Rattle.field_words.specs.declared.Fields.{Fields as Given}
+use Rattle.field_words.specs.Laws.{NamesOne, FieldBack, field_words, FieldsBack, GoodWords, GoodExactly, FieldOfWord, FieldUnnamed, NoneUnique, NameUnique, NoneGivenUnique, GivenUnique, EachGood}
+use Rattle.field_words.proofs.Given.{fields-told, unnamed-shown, fields_as, values-as, named-as, unnamed-as}
 use Rattle.field_words.proofs.Step.{free_below, unnamed_free}
 use Rattle.field_words.proofs.Taken as taken
 use Rattle.field_words.proofs.Taken.{name_taken}
@@ -92,26 +95,30 @@ none_unique = unique none_named
 pub name_unique : NameUnique
 name_unique f word = unique (name_field f word)
 
--- values and which are named tell what was given
-given-told : (xs ys : List (Option ℕ)) → map value_given xs ≡ map value_given ys → map is_some xs ≡ map is_some ys → xs ≡ ys
-given-told [] [] v n = refl
-given-told [] (y ∷ ys) v n = absurd (let z : ◌≡◌ {A = ℕ} 0 (suc (length ys)) = ap length n ∙ ap suc (length-map ys is_some) in omega arith)
-given-told (x ∷ xs) [] v n = absurd (let z : ◌≡◌ {A = ℕ} (suc (length xs)) 0 = sym (ap suc (length-map xs is_some)) ∙ ap length n in omega arith)
-given-told (x ∷ xs) (y ∷ ys) v n =
-    ap₂ (λ (a : Option ℕ) (l : List (Option ℕ)). a ∷ l)
-    (one x y (ap (λ (l : List ℕ). get_or l 0 0) v) (ap (λ (l : List Bool). get_or l 0 false) n))
-    (given-told xs ys (ap (drop 1) v) (ap (drop 1) n))
+pub none_given_unique : NoneGivenUnique
+none_given_unique x y p q =
+    ap (λ (l : List Field). record { fields = l })
+    (fields-told x.fields y.fields values (ap (λ (k : Fields). k.named) (p ∙ sym q)) (shown x p ∙ values ∙ sym (shown y q)))
   where
-    one : (x y : Option ℕ) → value_given x ≡ value_given y → is_some x ≡ is_some y → x ≡ y
-    one None None v n = refl
-    one None (Some y) v n = absurd (false≢true n)
-    one (Some x) None v n = absurd (false≢true (sym n))
-    one (Some x) (Some y) v n = ap Some v
+    values : map value_given x.fields ≡ map value_given y.fields
+    values = ap (λ (k : Fields). k.values) (p ∙ sym q)
+
+    shown : (z : Given) → fields_given z ≡ none_named → unnamed_in z ≡ map value_given z.fields
+    shown z e = unnamed-shown z.fields (λ k. ap (λ (h : Fields). get_or h.named k false) e ∙ all_alike false field_name_count k)
 
 pub given_unique : GivenUnique
-given_unique f None None p q = refl
-given_unique f None (Some g) p q = absurd (false≢true (sym p ∙ sym (ap (λ (h : Fields). h.good) q)))
-given_unique f (Some g) None p q = absurd (false≢true (sym q ∙ sym (ap (λ (h : Fields). h.good) p)))
-given_unique f (Some g) (Some h) p q =
-    ap (λ (l : List (Option ℕ)). Some (record { given = l }))
-    (given-told g.given h.given (ap (λ (k : Fields). k.values) (p ∙ sym q)) (ap (λ (k : Fields). k.named) (p ∙ sym q)))
+given_unique f unnamed None None p k q l = refl
+given_unique f unnamed None (Some g) p k q l = absurd (false≢true (sym p ∙ sym (ap (λ (h : Fields). h.good) q)))
+given_unique f unnamed (Some g) None p k q l = absurd (false≢true (sym q ∙ sym (ap (λ (h : Fields). h.good) p)))
+given_unique f unnamed (Some g) (Some h) p k q l =
+    ap (λ (s : List Field). Some (record { fields = s }))
+    (fields-told g.fields h.fields (ap (λ (z : Fields). z.values) (p ∙ sym q)) (ap (λ (z : Fields). z.named) (p ∙ sym q)) (k ∙ sym l))
+
+-- ---- a caller may begin with any fields
+
+pub each_good : EachGood
+each_good f good values_are named_are =
+    let even : length f.named ≡ length f.values = named_are ∙ sym values_are in
+    let read : fields_given (record { fields = fields_as f.named f.values }) ≡ f =
+    rw (values-as f.named f.values even, named-as f.named f.values even, good) refl in
+    (record { fields = fields_as f.named f.values }, read, unnamed-as f.named f.values even)

@@ -10,14 +10,16 @@ use borrow.Author.Tests.{ltb-true, lt-ltb, not-true}
 use Rattle.std.specs.Prelude.{Option, Some, None, is_some, map}
 use Rattle.std.specs.List.{position}
 use Rattle.std.proofs.Math.ListN.{get_or-map}
+use Rattle.std.proofs.Math.Seq.{map-set_same}
 use Rattle.std.proofs.lemmas.List.{map-set}
 use Rattle.octets.specs.Same.{same}
 use Rattle.octets.proofs.Tests.{and_left, and_right}
 use Rattle.wording.specs.Number.{number_read}
-use Rattle.field_words.specs.Given.{value_given, fields_given}
+use Rattle.field_words.specs.Given.{value_given, is_given, unnamed_of, fields_given, unnamed_in}
+use Rattle.field_words.specs.declared.Field.{Field}
 use Rattle.field_words.specs.declared.Fields.{Fields as Given}
 use Rattle.field_words.proofs.First.{place_some, place_none}
-use Rattle.field_words.specs.Words.{first_place, word_name, word_value, field_names, field_name_count}
+use Rattle.field_words.specs.Words.{first_place, word_name, word_value, field_names, field_name_count, field_number}
 use Rattle.field_words.specs.Fields.{Fields, spoiled, is_free, with_field, taken_as, name_field}
 
 module _ (f : Fields) (i : ℕ) where
@@ -60,40 +62,56 @@ unfolding taken_as is_free
 taken_past f None = refl
 taken_past f (Some n) = refl
 
--- ---- the same of the fields that the code has
+-- ---- the same of the fields that the code has, by what is found of the word
 
-module _ (f : Given) (word : List ℕ) {name : List ℕ} (names : name ≡ word_name word) where
-  pub unlisted : None ≡ position (same name) field_names → (name_field (fields_given f) word).good ≡ false
-  unfolding field_names
-  unlisted e =
-      ap (λ (g : Fields). g.good)
-      (named_as (fields_given f) word names (place_none (same name) field_names e) refl refl ∙ taken_past (fields_given f) (number_read (word_value word)))
+pub listed : (name : List ℕ) (i : ℕ) → position (same name) field_names ≡ Some i → i < field_name_count
+unfolding field_names
+listed name i e = (place_some (same name) field_names (sym e)).1
 
-  module _ {i : ℕ} (number : Some i ≡ position (same name) field_names) {value : List ℕ} (values : value ≡ word_value word) where
-    pub listed : i < field_name_count
+-- field i
+abbrev pub found : Given → ℕ → Field
+found f i = get_or f.fields i (record { given = None; unnamed = 0 })
+
+-- with a number that a word gave field i
+abbrev pub given_to : Given → ℕ → ℕ → ℕ → Given
+given_to f i n unnamed = record { fields = set f.fields i (record { given = Some n; unnamed = unnamed }) }
+
+module _ (f : Given) where
+  pub given_kept : (i n : ℕ) → unnamed_in (given_to f i n (found f i).unnamed) ≡ unnamed_in f
+  given_kept i n = map-set_same unnamed_of f.fields i (record { given = Some n; unnamed = (found f i).unnamed }) (record { given = None; unnamed = 0 }) refl
+
+  module _ (word : List ℕ) where
+    pub unlisted : position (same (word_name word)) field_names ≡ None → (name_field (fields_given f) word).good ≡ false
     unfolding field_names
-    listed = (place_some (same name) field_names number).1
+    unlisted e =
+        ap (λ (g : Fields). g.good)
+        (named_as (fields_given f) word refl (place_none (same (word_name word)) field_names (sym e)) refl refl
+        ∙ taken_past (fields_given f) (number_read (word_value word)))
 
-    taken : {o : Option ℕ} → o ≡ number_read value → name_field (fields_given f) word ≡ taken_as (fields_given f) i o
-    taken reads = named_as (fields_given f) word names (place_some (same name) field_names number).0 values reads
+    pub unread : number_read (word_value word) ≡ None → (name_field (fields_given f) word).good ≡ false
+    unread e = ap (λ (g : Fields). g.good) (named_as (fields_given f) word refl refl refl (sym e) ∙ taken_none (fields_given f) (field_number word))
 
-    pub unread : None ≡ number_read value → (name_field (fields_given f) word).good ≡ false
-    unread e = ap (λ (g : Fields). g.good) (taken e ∙ taken_none (fields_given f) i)
+    module _ (i n : ℕ) (number : position (same (word_name word)) field_names ≡ Some i) (reads : number_read (word_value word) ≡ Some n) where
+      taken : name_field (fields_given f) word ≡ taken_as (fields_given f) i (Some n)
+      taken = named_as (fields_given f) word refl (place_some (same (word_name word)) field_names (sym number)).0 refl (sym reads)
 
-    -- whether the field has a value
-    named : get_or (map is_some f.given) i false ≡ is_some (get_or f.given i None)
-    named = get_or-map is_some f.given i None
+      -- whether the field has a value
+      named : get_or (map is_given f.fields) i false ≡ is_some (found f i).given
+      named = get_or-map is_given f.fields i (record { given = None; unnamed = 0 })
 
-    module _ {n : ℕ} (reads : Some n ≡ number_read value) where
-      pub named_before : is_some (get_or f.given i None) ≡ true → (name_field (fields_given f) word).good ≡ false
+      pub named_before : is_some (found f i).given ≡ true → (name_field (fields_given f) word).good ≡ false
       unfolding is_free
       named_before e =
-          let before : is_free (fields_given f) i ≡ false = rw (named, e, lt-ltb i field_name_count listed) in
-          ap (λ (g : Fields). g.good) (taken reads ∙ taken_twice (fields_given f) i n before)
+          let before : is_free (fields_given f) i ≡ false = rw (named, e, lt-ltb i field_name_count (listed (word_name word) i number)) in
+          ap (λ (g : Fields). g.good) (taken ∙ taken_twice (fields_given f) i n before)
 
-      pub named_now : is_some (get_or f.given i None) ≡ false → fields_given (record { given = set f.given i (Some n) }) ≡ name_field (fields_given f) word
+      pub named_now : (unnamed : ℕ) → is_some (found f i).given ≡ false → fields_given (given_to f i n unnamed) ≡ name_field (fields_given f) word
       unfolding is_free
-      named_now e =
-          let free : is_free (fields_given f) i ≡ true = rw (named, e, lt-ltb i field_name_count listed) in
-          ap₂ (λ (v : List ℕ) (m : List Bool). record { values = v; named = m; good = true }) (map-set value_given f.given i (Some n)) (map-set is_some f.given i (Some n))
-          ∙ sym (taken reads ∙ taken_free (fields_given f) i n free)
+      named_now unnamed e =
+          let free : is_free (fields_given f) i ≡ true = rw (named, e, lt-ltb i field_name_count (listed (word_name word) i number)) in
+          let x : Field = record { given = Some n; unnamed = unnamed } in
+          ap₂ (λ (v : List ℕ) (m : List Bool). record { values = v; named = m; good = true }) (map-set value_given f.fields i x) (map-set is_given f.fields i x)
+          ∙ sym (taken ∙ taken_free (fields_given f) i n free)
+
+-- what the code finds of a word, whichever way it goes
+pub ruleset word_found = (listed, given_kept, unlisted, unread, named_before, named_now)

@@ -1,11 +1,11 @@
 -- What reading fields from words promises, as statements; proofs/Laws.antt proves each.
 -- Assumes nothing.
-use Rattle.std.specs.Prelude.{◌≡◌, ◌↔◌, true, List, [], ◌∷◌, ℕ, suc, ◌≤◌, ◌<◌, min, length, get_or, replicate, Option}
-use Rattle.octets.specs.Unique.{Unique}
+use Rattle.std.specs.Prelude.{◌≡◌, ◌↔◌, true, List, [], ◌∷◌, ℕ, suc, ◌≤◌, ◌<◌, min, length, get_or, replicate, Option, IfSome}
+use Rattle.octets.specs.Unique.{Unique, UniqueBy}
 use Rattle.wording.specs.Decimal.{decimal, value_of}
 use Rattle.wording.specs.Number.{greatest, is_decimal}
 use Rattle.field_words.specs.Words.{field_name_count, field_word}
-use Rattle.field_words.specs.Given.{FieldsSay}
+use Rattle.field_words.specs.Given.{fields_given, unnamed_in, FieldsSay}
 use Rattle.field_words.specs.declared.Fields.{Fields as Given}
 use Rattle.field_words.specs.Fields.{Fields, none_named, is_free, with_field, name_field, fields_in}
 
@@ -66,6 +66,20 @@ NoneUnique = Unique none_named
 abbrev pub NameUnique : Type 0
 NameUnique = (f : Fields) (word : List ℕ) → Unique (name_field f word)
 
--- so what the code gives back is one answer too
+-- so what the code gives back before the first word is one answer too
+abbrev pub NoneGivenUnique : Type 0
+NoneGivenUnique = UniqueBy fields_given none_named
+
+-- and after a word more, where what no word named is as it was
 abbrev pub GivenUnique : Type 0
-GivenUnique = (f : Fields) (x y : Option Given) → FieldsSay x f → FieldsSay y f → x ≡ y
+GivenUnique =
+    (f : Fields) (unnamed : List ℕ) (x y : Option Given) → FieldsSay x f → IfSome x (λ g. unnamed_in g ≡ unnamed)
+    → FieldsSay y f → IfSome y (λ g. unnamed_in g ≡ unnamed) → x ≡ y
+
+-- ---- a caller may begin with any fields
+
+-- twelve values, and any of them named, are what some fields of the code are read as, in which each value is its field's where no word names it
+abbrev pub EachGood : Type 0
+EachGood =
+    (f : Fields) → f.good ≡ true → length f.values ≡ field_name_count → length f.named ≡ field_name_count
+    → (g : Given) × (fields_given g ≡ f) × (unnamed_in g ≡ f.values)

@@ -3,12 +3,12 @@
 
 mod words;
 
-ghost use Rattle.std.specs.Prelude.{◌≡◌};
+ghost use Rattle.std.specs.Prelude.{◌≡◌, IfSome};
 ghost use Rattle.std.specs.List.{position};
 ghost use Rattle.octets.specs.Same.{same};
 ghost use Rattle.field_words.specs.Words.{field_names};
 ghost use Rattle.field_words.specs.Fields.{none_named, name_field};
-ghost use Rattle.field_words.specs.Given.{fields_given, FieldsSay};
+ghost use Rattle.field_words.specs.Given.{value_given, fields_given, unnamed_in, FieldsSay};
 
 use octets::strings::equal;
 use wording::decimal;
@@ -33,18 +33,33 @@ const FIELD_NAMES: [&str; FIELD_COUNT] = [
     "format",
 ];
 
-// What a word gave each field, and none where no word named it.
+// What a word gave a field, and what it is where no word named it.
+#[derive(Clone, Copy)]
+pub struct Field {
+    pub given: Option<u64>,
+    pub unnamed: u64,
+}
+
+// A page's fields, in the order of their names.
 #[derive(Clone, Copy)]
 pub struct Fields {
-    pub given: [Option<u64>; FIELD_COUNT],
+    pub fields: [Field; FIELD_COUNT],
+}
+
+impl Field {
+    pub fn value(self) -> u64
+        ensures { result ≡ value_given self }
+    {
+        self.given.unwrap_or(self.unnamed)
+    }
 }
 
 impl Fields {
-    // Each field's value: 0 where no word named it.
+    // Each field's value.
     pub fn values(self) -> [u64; FIELD_COUNT]
         ensures { result ≡ (fields_given self).values }
     {
-        self.given.map(|value| value.unwrap_or(0))
+        self.fields.map(Field::value)
     }
 }
 
@@ -62,26 +77,33 @@ fn field_number(name: &[u8]) -> Option<usize>
     place_in(&FIELD_NAMES, name)
 }
 
-// Before the first word: no field is named.
+// Before the first word: no field is named, and each is 0.
 pub fn none_named() -> Fields
     ensures { fields_given result ≡ none_named }
 {
+    let field = Field {
+        given: None,
+        unnamed: 0,
+    };
     Fields {
-        given: [None; FIELD_COUNT],
+        fields: [field; FIELD_COUNT],
     }
 }
 
-// The fields after a word more. None where it is no NAME=VALUE with a name of a page's field and a number in decimal digits, or where its name came before.
+// The fields after a word more; what no word named stays as it was. None where it is no NAME=VALUE with a name of a page's field and a number in decimal
+// digits, or where its name came before.
+#[tactic(auto, using(crate::proofs::Step::word_found))]
 pub fn name_field(f: Fields, word: &[u8]) -> Option<Fields>
-    ensures { FieldsSay result (name_field (fields_given f) word.now) }
+    ensures said { FieldsSay result (name_field (fields_given f) word.now) }
+    ensures kept { IfSome result (λ g. unnamed_in g ≡ unnamed_in f) }
 {
     let i = field_number(name_in(word))?;
     let n = decimal::read(value_in(word))?;
-    let taken = f.given[i].is_some();
+    let taken = f.fields[i].given.is_some();
     if taken {
         return None;
     }
     let mut named = f;
-    named.given[i] = Some(n);
+    named.fields[i].given = Some(n);
     Some(named)
 }
