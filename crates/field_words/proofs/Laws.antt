@@ -18,7 +18,8 @@ use Rattle.field_words.specs.Fields.{Fields, none_named, with_field, name_field,
 use Rattle.field_words.specs.Given.{value_given, fields_given, unnamed_in}
 use Rattle.field_words.specs.declared.Field.{Field}
 use Rattle.field_words.specs.declared.Fields.{Fields as Given}
-use Rattle.field_words.specs.Laws.{NamesOne, FieldBack, field_words, FieldsBack, GoodWords, GoodExactly, FieldOfWord, FieldUnnamed, NoneUnique, NameUnique, NoneGivenUnique, GivenUnique, EachGood}
+use Rattle.field_words.specs.Laws.{NamesOne, FieldBack, field_words, FieldsBack, GoodWords, GoodExactly, FieldOfWord, FieldUnnamed}
+use Rattle.field_words.specs.Laws.{NoneUnique, NameUnique, NoneGivenUnique, GivenUnique, EachGood}
 use Rattle.field_words.proofs.Given.{fields-told, unnamed-shown, fields_as, values-as, named-as, unnamed-as}
 use Rattle.field_words.proofs.Step.{free_below, unnamed_free}
 use Rattle.field_words.proofs.Taken as taken
